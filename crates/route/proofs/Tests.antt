@@ -1,0 +1,39 @@
+-- Laws of tests: each by the cases of its Booleans. Assumes nothing.
+use Prim.Native.Nat.{ℕ, zero, suc, _<_}
+use mathlib.Core.Path.{_≡_, refl, subst}
+use mathlib.Core.Bool.{Bool, true, false, _||_}
+use mathlib.Core.Logic.{_⊎_, inl, inr, _↔_}
+use native.Mathlib.Omega.{arith}
+use lib.Dec.{T}
+
+pub or-l : (a b : Bool) → T a → T (a || b)
+or-l true b t = tt
+
+pub or-r : (a b : Bool) → T b → T (a || b)
+or-r true b t = tt
+or-r false b t = t
+
+-- what adds nothing may be left out
+pub absorb : (a b : Bool) → (T b → T a) → a ≡ a || b
+absorb true b f = refl
+absorb false true f = absurd (f tt)
+absorb false false f = refl
+
+-- two tests that hold together are one
+pub tests-alike : (a b : Bool) → T a ↔ T b → a ≡ b
+tests-alike true true f = refl
+tests-alike true false f = absurd (f .0 tt)
+tests-alike false true f = absurd (f .1 tt)
+tests-alike false false f = refl
+
+pub zero-or : (k : ℕ) → (k ≡ 0) ⊎ (0 < k)
+zero-or zero = inl refl
+zero-or (suc k) = inr (omega arith)
+
+pub neither : {a b : Bool} → a || b ≡ false → (a ≡ false) × (b ≡ false)
+neither {a = false} h = (refl, h)
+neither {a = true} h = absurd (subst T h tt)
+
+pub fails : (b : Bool) → (T b → ⊥) → b ≡ false
+fails true f = absurd (f tt)
+fails false f = refl

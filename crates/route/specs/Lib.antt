@@ -1,0 +1,8 @@
+-- What a reader must believe of this crate, in the order to read it in.
+pub mod Grid
+pub mod Turns
+pub mod Mesh
+pub mod Numbers
+pub mod Paths
+pub mod Route
+pub mod Marks

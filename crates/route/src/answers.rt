@@ -1,0 +1,82 @@
+// The routing answer at a place. Whoever goes along the column here may as well go all of it here;
+// whoever goes along the row needs a column ahead to turn in, and the destination's or the one
+// beside it is as good as any. So a few turns tell whether a shortest legal path begins that way.
+use crate::meshes::Mesh;
+use crate::places::Column;
+use crate::places::Place;
+ghost use mathlib.Core.Path.{_≡_};
+ghost use mathlib.Core.Bool.{_||_};
+ghost use Prim.Native.Nat.{_^_, _≤_, _<_};
+ghost use Rattle.route.specs.Grid.{pick, west, east, south, north};
+ghost use Rattle.route.specs.Mesh.{Inside, meant};
+ghost use Rattle.route.specs.Numbers.{arrival-of};
+ghost use Rattle.route.specs.Paths.{answer};
+ghost use Rattle.route.specs.Route.{outputs};
+
+// The set at the destination.
+const DELIVER: u8 = 16;
+
+// Does a shortest legal path begin along the row?
+fn row_leads(m: Mesh, here: Place, arrival: u8, there: Place) -> bool
+    requires { ⌜ arrival < 5 ⌝ }
+    requires { ⌜ Inside (meant m) there ⌝ }
+    ensures { λ r. ⌜ r ≡ answer (meant m) here (arrival-of arrival) there west || answer (meant m) here (arrival-of arrival) there east ⌝ }
+{
+    let h = here.column.way(there.column);
+    let v = here.row.way(there.row);
+    let dx = here.column.hops(there.column);
+    let dy = here.row.hops(there.row);
+    // Turns go by parity, so the column past the destination's stands for the one before it.
+    let past = there.column.0 + 1;
+    let beside = Column(past);
+    let turns_beside = m.turn_ok(beside, h, v) & m.turn_ok(beside, v, h);
+    let turns_there = (dy == 0) | m.turn_ok(there.column, h, v);
+    let goes_on = turns_there | ((2 <= dx) & turns_beside);
+    m.turn_ok(here.column, arrival, h) & ((dx != 0) & goes_on)
+}
+
+// Does a shortest legal path begin along the column?
+fn column_leads(m: Mesh, here: Place, arrival: u8, there: Place) -> bool
+    requires { ⌜ arrival < 5 ⌝ }
+    requires { ⌜ Inside (meant m) there ⌝ }
+    ensures { λ r. ⌜ r ≡ answer (meant m) here (arrival-of arrival) there south || answer (meant m) here (arrival-of arrival) there north ⌝ }
+{
+    let h = here.column.way(there.column);
+    let v = here.row.way(there.row);
+    let dx = here.column.hops(there.column);
+    let dy = here.row.hops(there.row);
+    let goes_on = (dx == 0) | m.turn_ok(here.column, v, h);
+    m.turn_ok(here.column, arrival, v) & ((dy != 0) & goes_on)
+}
+
+// A direction's value in a set where it is in it, else 0.
+fn value_if(member: bool, direction: u8) -> u8
+    requires { ⌜ direction < 4 ⌝ }
+    ensures { λ r. ⌜ r ≤ 8 ⌝ ∗ ⌜ r ≡ pick member (2 ^ direction) 0 ⌝ }
+{
+    if member {
+        return 1 << direction;
+    }
+    0
+}
+
+// The set of outputs at a place for a packet that arrives so and goes there; 0 where no shortest
+// path is legal.
+pub fn outputs_at(m: Mesh, here: Place, arrival: u8, there: Place) -> u8
+    requires { ⌜ arrival < 5 ⌝ }
+    requires { ⌜ Inside (meant m) there ⌝ }
+    ensures { λ r. ⌜ r ≡ outputs (meant m) here (arrival-of arrival) there ⌝ }
+{
+    if here.is(there) {
+        return DELIVER;
+    }
+    let along_row = value_if(
+        row_leads(m, here, arrival, there),
+        here.column.way(there.column),
+    );
+    let along_column = value_if(
+        column_leads(m, here, arrival, there),
+        here.row.way(there.row),
+    );
+    along_row + along_column
+}

@@ -1,0 +1,20 @@
+// Turn rules and the routing answer of a two-dimensional mesh.
+//
+// At a node, for a packet that arrived travelling one way and goes to a destination, `mesh_route`
+// gives the first hops of the shortest paths that the published turn rule allows, and no others.
+// It looks at two columns and searches nothing, so every answer takes the same time.
+mod answers;
+mod meshes;
+mod places;
+mod refusals;
+mod routes;
+
+pub use answers::outputs_at;
+pub use meshes::Mesh;
+pub use meshes::mesh_of;
+pub use places::Column;
+pub use places::Place;
+pub use places::Row;
+pub use places::place_of;
+pub use routes::Routed;
+pub use routes::mesh_route;
