@@ -14,7 +14,6 @@ use Rattle.route.specs.Paths.{answer}
 use Rattle.route.proofs.Every.{AllS, senses, AllR, rules}
 use Rattle.route.proofs.Tests.{or-l}
 use Rattle.route.proofs.Closed.{across, along}
-use Rattle.route.proofs.Shortest as shortest
 use Rattle.route.proofs.Exact.{aims, leads, exact, same-self}
 
 abbrev hv : Rule → Sense → Sense → Parity → Bool

@@ -6,8 +6,9 @@ use crate::places::Column;
 use crate::places::Place;
 ghost use mathlib.Core.Path.{_≡_};
 ghost use mathlib.Core.Bool.{_||_};
-ghost use Prim.Native.Nat.{_^_, _≤_, _<_};
-ghost use Rattle.route.specs.Grid.{pick, west, east, south, north};
+ghost use Prim.Native.Nat.{_+_, _^_, _≤_, _<_};
+ghost use lib.Dec.{ltb};
+ghost use Rattle.route.specs.Grid.{pick, gap, west, east, south, north};
 ghost use Rattle.route.specs.Mesh.{Inside, meant};
 ghost use Rattle.route.specs.Numbers.{arrival-of};
 ghost use Rattle.route.specs.Paths.{answer};
@@ -16,37 +17,59 @@ ghost use Rattle.route.specs.Route.{outputs};
 // The set at the destination.
 const DELIVER: u8 = 16;
 
+// What leads from a place to a destination: `h` along the row, `v` along the column; `dx` columns and
+// `dy` rows are to go.
+struct Course {
+    h: u8,
+    v: u8,
+    dx: u8,
+    dy: u8,
+}
+
+// The course from a place to a destination.
+fn course_to(here: Place, there: Place) -> Course
+    ensures { λ r. ⌜ (r .h < 2)
+        × (r .h ≡ pick (ltb (here .column .0) (there .column .0)) 1 0)
+        × (r .v < 4)
+        × (r .v ≡ 2 + pick (ltb (here .row .0) (there .row .0)) 1 0)
+        × (r .dx ≡ gap (here .column .0) (there .column .0))
+        × (r .dy ≡ gap (here .row .0) (there .row .0)) ⌝ }
+{
+    Course {
+        h: here.column.way(there.column),
+        v: here.row.way(there.row),
+        dx: here.column.hops(there.column),
+        dy: here.row.hops(there.row),
+    }
+}
+
 // Does a shortest legal path begin along the row?
 fn row_leads(m: Mesh, here: Place, arrival: u8, there: Place) -> bool
     requires { ⌜ arrival < 5 ⌝ }
     requires { ⌜ Inside (meant m) there ⌝ }
-    ensures { λ r. ⌜ r ≡ answer (meant m) here (arrival-of arrival) there west || answer (meant m) here (arrival-of arrival) there east ⌝ }
+    ensures { λ r. ⌜ r ≡ answer (meant m) here (arrival-of arrival) there west
+        || answer (meant m) here (arrival-of arrival) there east ⌝ }
 {
-    let h = here.column.way(there.column);
-    let v = here.row.way(there.row);
-    let dx = here.column.hops(there.column);
-    let dy = here.row.hops(there.row);
+    let c = course_to(here, there);
     // Turns go by parity, so the column past the destination's stands for the one before it.
     let past = there.column.0 + 1;
     let beside = Column(past);
-    let turns_beside = m.turn_ok(beside, h, v) & m.turn_ok(beside, v, h);
-    let turns_there = (dy == 0) | m.turn_ok(there.column, h, v);
-    let goes_on = turns_there | ((2 <= dx) & turns_beside);
-    m.turn_ok(here.column, arrival, h) & ((dx != 0) & goes_on)
+    let turns_beside = m.turn_ok(beside, c.h, c.v) & m.turn_ok(beside, c.v, c.h);
+    let turns_there = (c.dy == 0) | m.turn_ok(there.column, c.h, c.v);
+    let goes_on = turns_there | ((2 <= c.dx) & turns_beside);
+    m.turn_ok(here.column, arrival, c.h) & ((c.dx != 0) & goes_on)
 }
 
 // Does a shortest legal path begin along the column?
 fn column_leads(m: Mesh, here: Place, arrival: u8, there: Place) -> bool
     requires { ⌜ arrival < 5 ⌝ }
     requires { ⌜ Inside (meant m) there ⌝ }
-    ensures { λ r. ⌜ r ≡ answer (meant m) here (arrival-of arrival) there south || answer (meant m) here (arrival-of arrival) there north ⌝ }
+    ensures { λ r. ⌜ r ≡ answer (meant m) here (arrival-of arrival) there south
+        || answer (meant m) here (arrival-of arrival) there north ⌝ }
 {
-    let h = here.column.way(there.column);
-    let v = here.row.way(there.row);
-    let dx = here.column.hops(there.column);
-    let dy = here.row.hops(there.row);
-    let goes_on = (dx == 0) | m.turn_ok(here.column, v, h);
-    m.turn_ok(here.column, arrival, v) & ((dy != 0) & goes_on)
+    let c = course_to(here, there);
+    let goes_on = (c.dx == 0) | m.turn_ok(here.column, c.v, c.h);
+    m.turn_ok(here.column, arrival, c.v) & ((c.dy != 0) & goes_on)
 }
 
 // A direction's value in a set where it is in it, else 0.
@@ -70,13 +93,8 @@ pub fn outputs_at(m: Mesh, here: Place, arrival: u8, there: Place) -> u8
     if here.is(there) {
         return DELIVER;
     }
-    let along_row = value_if(
-        row_leads(m, here, arrival, there),
-        here.column.way(there.column),
-    );
-    let along_column = value_if(
-        column_leads(m, here, arrival, there),
-        here.row.way(there.row),
-    );
+    let c = course_to(here, there);
+    let along_row = value_if(row_leads(m, here, arrival, there), c.h);
+    let along_column = value_if(column_leads(m, here, arrival, there), c.v);
     along_row + along_column
 }

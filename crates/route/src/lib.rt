@@ -2,7 +2,7 @@
 //
 // At a node, for a packet that arrived travelling one way and goes to a destination, `mesh_route`
 // gives the first hops of the shortest paths that the published turn rule allows, and no others.
-// It looks at two columns and searches nothing, so every answer takes the same time.
+// It searches nothing: whatever the mesh, an answer is a handful of turns looked up in a table.
 mod answers;
 mod meshes;
 mod places;

@@ -22,7 +22,7 @@ pub struct Mesh {
     pub table: u16,
 }
 
-// The tables of the five rules.
+// The tables of the five rules: xy, west-first, north-last, negative-first, odd-even.
 const TABLES: [u16; 5] = [0xf0f0, 0xf5f5, 0xfcfc, 0xdddd, 0xf5cf];
 
 // Is a side too short or too long?
@@ -73,7 +73,7 @@ fn opposite(direction: u8) -> u8
 }
 
 impl Mesh {
-    // Does the channel that leaves a place that way exist?
+    // Does the channel that leaves a place to the west, east, south or north exist?
     pub fn exists(self, here: Place, direction: u8) -> bool
         requires { ⌜ direction < 4 ⌝ }
         requires { ⌜ Inside (meant self) here ⌝ }

@@ -5,22 +5,9 @@ use Rattle.route.specs.Numbers.{arrival-of}
 use Rattle.route.proofs.Outputs.{column-tests}
 use Rattle.route.proofs.answers.column_leads.Statement.{statement}
 use Rattle.route.proofs.answers.column_leads.Tie as tie
-use Rattle.route.proofs.places.Column.hops.Reads as places-Column-hops-reads
-use Rattle.route.proofs.places.Column.way.Reads as places-Column-way-reads
-use Rattle.route.proofs.places.Row.hops.Reads as places-Row-hops-reads
-use Rattle.route.proofs.places.Row.way.Reads as places-Row-way-reads
 
-way-requires : tie.Need-way-requires
-way-requires c κs = search needs
-
-way-requires-2 : tie.Need-way-requires-2
-way-requires-2 c κs = search needs
-
-hops-requires : tie.Need-hops-requires
-hops-requires c κs = search needs
-
-hops-requires-2 : tie.Need-hops-requires-2
-hops-requires-2 c κs = search needs
+course-to-requires : tie.Need-course-to-requires
+course-to-requires c κs = search needs
 
 turn-ok-requires : tie.Need-turn-ok-requires
 turn-ok-requires c κs = search needs
@@ -30,25 +17,11 @@ turn-ok-requires-2 c κs = search needs
 
 returns : tie.Need-returns
 returns c =
-    let x = c .before .before .before .before .before .before .args in
-    rw (
-      c .turn-ok2 .ensures,
-      c .before .turn-ok .ensures,
-      c .before .before .hops2 .ensures,
-      c .before .before .before .hops .ensures,
-      c .before .before .before .before .way2 .ensures .1,
-      c .before .before .before .before .before .way .ensures .1,
-    )
+    let w = c .before .before .before .before .course-to .ensures in
+    let x = c .before .before .before .before .before .args in
+    rw (c .before .turn-ok2 .ensures, c .before .before .turn-ok .ensures, w .1, w .3, w .4, w .5)
     (column-tests (meant (x .m)) (x .here) (arrival-of (x .arrival)) (x .there) (search needs))
 
 pub column-leads-spec : {M : Type 1} → statement M
 column-leads-spec =
-    tie.close
-    (tie.spec
-    way-requires
-    way-requires-2
-    hops-requires
-    hops-requires-2
-    turn-ok-requires
-    turn-ok-requires-2
-    returns)
+    tie.close (tie.spec course-to-requires turn-ok-requires turn-ok-requires-2 returns)

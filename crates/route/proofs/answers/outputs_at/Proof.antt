@@ -7,8 +7,6 @@ use Rattle.route.specs.Route.{outputs}
 use Rattle.route.proofs.Outputs.{set-is}
 use Rattle.route.proofs.answers.outputs_at.Statement.{statement}
 use Rattle.route.proofs.answers.outputs_at.Tie as tie
-use Rattle.route.proofs.places.Column.way.Reads as places-Column-way-reads
-use Rattle.route.proofs.places.Row.way.Reads as places-Row-way-reads
 
 is-requires : tie.Need-is-requires
 is-requires c κs = search needs
@@ -17,20 +15,17 @@ returns : tie.Need-returns
 unfolding outputs
 returns c = rw (sym (c .before .is .ensures) ∙ c .if1 .taken) refl
 
+course-to-requires : tie.Need-course-to-requires
+course-to-requires c κs = search needs
+
 row-leads-requires : tie.Need-row-leads-requires
 row-leads-requires c κs = search needs
-
-way-requires : tie.Need-way-requires
-way-requires c κs = search needs
 
 value-if-requires : tie.Need-value-if-requires
 value-if-requires c κs = search needs
 
 column-leads-requires : tie.Need-column-leads-requires
 column-leads-requires c κs = search needs
-
-way-requires-2 : tie.Need-way-requires-2
-way-requires-2 c κs = search needs
 
 value-if-requires-2 : tie.Need-value-if-requires-2
 value-if-requires-2 c κs = search needs
@@ -40,16 +35,10 @@ add-result c = search needs
 
 returns-2 : tie.Need-returns-2
 returns-2 c =
-    let x = c .before .before .before .before .before .before .before .before .args in
-    rw (
-      c .value-if2 .ensures .1,
-      c .before .before .before .value-if .ensures .1,
-      c .before .way2 .ensures .1,
-      c .before .before .before .before .way .ensures .1,
-      c .before .before .column-leads .ensures,
-      c .before .before .before .before .before .row-leads .ensures,
-    )
-    (set-is (meant (x .m)) (x .here) (arrival-of (x .arrival)) (x .there) (search needs) (sym (c .before .before .before .before .before .before .before .is .ensures) ∙ c .before .before .before .before .before .before .if1 .left))
+    let w = c .before .before .before .before .course-to .ensures in
+    let x = c .before .before .before .before .before .before .before .args in
+    rw (c .value-if2 .ensures .1, c .before .before .value-if .ensures .1, c .before .column-leads .ensures, c .before .before .before .row-leads .ensures, w .1, w .3)
+    (set-is (meant (x .m)) (x .here) (arrival-of (x .arrival)) (x .there) (search needs) (sym (c .before .before .before .before .before .before .is .ensures) ∙ c .before .before .before .before .before .if1 .left))
 
 pub outputs-at-spec : {M : Type 1} → statement M
 outputs-at-spec =
@@ -57,11 +46,10 @@ outputs-at-spec =
     (tie.spec
     is-requires
     returns
+    course-to-requires
     row-leads-requires
-    way-requires
     value-if-requires
     column-leads-requires
-    way-requires-2
     value-if-requires-2
     add-result
     returns-2)
