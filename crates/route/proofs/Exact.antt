@@ -11,11 +11,11 @@ use lib.Dec.{T}
 use Rattle.route.specs.declared.places.Place.{Place}
 use Rattle.route.specs.Grid.{Axis, horiz, vert, Sense, less, more, Dir, go, coord, hop, gap, dist}
 use Rattle.route.specs.Turns.{Arrival, going, same}
-use Rattle.route.specs.Mesh.{Mesh, Inside, turn}
+use Rattle.route.specs.Mesh.{Mesh, Inside, exists, turn}
 use Rattle.route.specs.Paths.{Shortest, answer}
 use Rattle.route.proofs.Tests.{or-l, or-r, tests-alike}
 use Rattle.route.proofs.Axis.{left, toward, Left, left-is, gap-is, same-parity, stepped, has-room, only, aim}
-use Rattle.route.proofs.Shortest.{home, first-hop, hop-iff, by-paths}
+use Rattle.route.proofs.Shortest.{ahead, home, first-hop, hop-iff, by-paths}
 use Rattle.route.proofs.Closed.{across, along, done, across-hop, along-hop}
 
 -- ---- the turn test goes by the parity of the column, and lets a packet go straight on
@@ -117,23 +117,26 @@ module _ (m : Mesh) (t : Place) (toward-t : Axis → Sense) where
         (or-r (in-closed n a dx dy horiz) _ (by vert .1 (p, rw (only s (b .1) (first-hop m t q .0)) at q)))
 
   module _ (inside : Inside m t) where
-    -- no hop is left along x, so none begins a path
+    -- no hop along x is left, so none begins a path
     none : (x : Axis) (n : Place) (a : Arrival) → left (toward-t x) (coord x n) (coord x t) ≡ 0 → T (turn m (coord horiz n) a (way x) && false) ↔ By n a (way x)
     none x n a z =
         (λ o. absurd (and-yes (turn m (coord horiz n) a (way x)) false o .1), λ q. absurd (omega (arith, first-hop m t (q .1) .0)))
+
+    -- a hop along x is left: it begins a path exactly if the turn is allowed and the closed form goes on from there
+    hopped : (k : ℕ) → Reach k → (x : Axis) (n : Place) (a : Arrival) (dx dy : ℕ) → dx + dy < k → Box (hop (way x) n) dx dy
+        → T (exists m n (way x)) → 0 < ahead (way x) n t → T (turn m (coord horiz n) a (way x) && closed-on x dx dy) ↔ By n a (way x)
+    hopped k f x n a dx dy i b r z =
+        hop-iff m t n a (way x) (closed-on x dx dy) r z
+        (rw (after x (hop (way x) n) dx dy b) (f (hop (way x) n) (going (way x)) dx dy i b))
 
     at : (k : ℕ) → Reach k → (n : Place) (a : Arrival) (dx dy : ℕ) → dx + dy < suc k → Box n dx dy → (x : Axis) → T (in-closed n a dx dy x) ↔ By n a (way x)
     unfolding across along
     at k f n a zero dy i b horiz = none horiz n a (left-is (b .0))
     at k f n a (suc dx) dy i b horiz =
-        let b′ : Box (hop (way horiz) n) dx dy = (stepped (b .0), b .1) in
-        hop-iff m t n a (way horiz) (closed-on horiz dx dy) (has-room (b .0) (inside .0)) (omega (arith, left-is (b .0)))
-        (rw (after horiz (hop (way horiz) n) dx dy b′) (f (hop (way horiz) n) (going (way horiz)) dx dy (omega arith) b′))
+        hopped k f horiz n a dx dy (omega arith) (stepped (b .0), b .1) (has-room (b .0) (inside .0)) (omega (arith, left-is (b .0)))
     at k f n a dx zero i b vert = none vert n a (left-is (b .1))
     at k f n a dx (suc dy) i b vert =
-        let b′ : Box (hop (way vert) n) dx dy = (b .0, stepped (b .1)) in
-        hop-iff m t n a (way vert) (closed-on vert dx dy) (has-room (b .1) (inside .1)) (omega (arith, left-is (b .1)))
-        (rw (after vert (hop (way vert) n) dx dy b′) (f (hop (way vert) n) (going (way vert)) dx dy (omega arith) b′))
+        hopped k f vert n a dx dy (omega arith) (b .0, stepped (b .1)) (has-room (b .1) (inside .1)) (omega (arith, left-is (b .1)))
 
     reach : (k : ℕ) → Reach k
     reach zero n a dx dy i b = absurd (omega arith)

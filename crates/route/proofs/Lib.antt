@@ -1,4 +1,4 @@
--- The proofs that belong to no one function, each file above those that it rests on. Promises is what other crates may cite.
+-- The proofs that belong to no one function, each after those that it rests on. Promises is what other crates may cite.
 mod Every
 mod Tests
 mod Axis
