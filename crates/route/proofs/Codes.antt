@@ -10,16 +10,18 @@ use lib.ListN.{getD}
 use lib.Dec.{T, leb, eqb, leb→le}
 use borrow.Author.Tests.{lt-leb, ne-eqb, not-false}
 use Rattle.route.specs.declared.places.Place.{Place}
-use Rattle.route.specs.Grid.{back}
-use Rattle.route.specs.Turns.{Parity, even, odd, parity-at, Turn, turned, Table, allowed, xy, west-first, north-last, negative-first, odd-even, bit, rule-table, bits}
-use Rattle.route.specs.Mesh.{Mesh, exists, ruled, meant}
-use Rattle.route.specs.Numbers.{dir-of, arrival-of, rule-of}
+use Rattle.route.specs.Grid.{Dir, back}
+use Rattle.route.specs.Turns.{Parity, even, odd, parity-at, Turn, Table, allowed, xy, west-first, north-last, negative-first, odd-even, bit, rule-table}
+use Rattle.route.specs.Mesh.{Mesh, exists, ruled}
+use Rattle.route.specs.Numbers.{number, dir-of, arrival-of, rule-of}
 use Rattle.route.specs.Route.{from-mesh, arrives}
-use Rattle.route.proofs.Every.{AllT, turns, four, four-four}
+use Rattle.route.specs.Coded.{turned, bits, meant}
+use Rattle.route.proofs.Every.{dirs, AllT, turns, four, four-four}
 
 -- ---- turns
-pub turn-place : (a d : ℕ) → a < 4 → d < 4 → 4 * (1 - a / 2) + 2 * ((a + 1) % 2) + (d + 1) % 2 ≡ bit (turned (dir-of a) (dir-of d))
-turn-place = four-four (λ a d. 4 * (1 - a / 2) + 2 * ((a + 1) % 2) + (d + 1) % 2 ≡ bit (turned (dir-of a) (dir-of d))) (omega arith)
+-- a turn's number, by the numbers of its directions: from the row 4 on, from west or south 2 on, to west or south 1 on
+pub bit-number : (a d : ℕ) → a < 4 → d < 4 → bit (turned (dir-of a) (dir-of d)) ≡ 4 * (1 - a / 2) + 2 * (1 - a % 2) + (1 - d % 2)
+bit-number = four-four (λ a d. bit (turned (dir-of a) (dir-of d)) ≡ 4 * (1 - a / 2) + 2 * (1 - a % 2) + (1 - d % 2)) (omega arith)
 
 -- on one axis straight on is allowed, and back is not
 pub one-axis : (turns : Turn → Bool) (a d : ℕ) → a < 4 → d < 4 → a / 2 ≡ d / 2 → eqb a d ≡ allowed turns (arrival-of a) (dir-of d)
@@ -48,8 +50,12 @@ bit-of w (suc zero) t i = refl
 bit-of w (suc (suc p)) t i = absurd (omega arith)
 
 -- ---- directions
-pub opposite-is : (d : ℕ) → d < 4 → dir-of (2 * (d / 2) + (d + 1) % 2) ≡ back (dir-of d)
-opposite-is = four (λ d. dir-of (2 * (d / 2) + (d + 1) % 2) ≡ back (dir-of d)) (refl, refl, refl, refl)
+-- the number of the opposite direction, on the same axis
+pub back-number : (d : ℕ) → d < 4 → number (back (dir-of d)) ≡ 2 * (d / 2) + (1 - d % 2)
+back-number = four (λ d. number (back (dir-of d)) ≡ 2 * (d / 2) + (1 - d % 2)) (omega arith)
+
+pub dir-of-number : (d : Dir) → dir-of (number d) ≡ d
+dir-of-number = dirs (λ d. dir-of (number d) ≡ d) (refl, refl, refl, refl)
 
 -- a packet that travels so came from the neighbour behind it
 pub arrives-going : (m : Mesh) (n : Place) (a : ℕ) → a < 4 → exists m n (back (dir-of a)) ≡ arrives m n a

@@ -58,6 +58,14 @@ four P h (suc (suc (suc (suc k)))) i = absurd (omega arith)
 pub four-four : (P : ℕ → ℕ → Type 0) → All4 (λ a. All4 (P a)) → (a d : ℕ) → a < 4 → d < 4 → P a d
 four-four P h a d i j = four (P a) (four (λ a. All4 (P a)) h a i) d j
 
+-- what holds whichever of the four a number is
+pub at-four : {P : Type 0} (k : ℕ) → k < 4 → (k ≡ 0 → P) → (k ≡ 1 → P) → (k ≡ 2 → P) → (k ≡ 3 → P) → P
+at-four zero i f g h j = f refl
+at-four (suc zero) i f g h j = g refl
+at-four (suc (suc zero)) i f g h j = h refl
+at-four (suc (suc (suc zero))) i f g h j = j refl
+at-four (suc (suc (suc (suc k)))) i f g h j = absurd (omega arith)
+
 -- directions with one number are one
 pub number-apart : (d e : Dir) → number d ≡ number e → d ≡ e
 number-apart = dirs (λ d. (e : Dir) → number d ≡ number e → d ≡ e) (

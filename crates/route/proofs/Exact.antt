@@ -185,3 +185,7 @@ module _ (m : Mesh) (n : Place) (a : Arrival) (t : Place) (inside : Inside m t) 
         λ o. let w = and-yes (same s (aims n t x)) (leads m n a t x) o in
             by-paths m n a t (go x s) .1 (rw (same-is s (aims n t x) (w .0)) (towards x .0 (w .1))),
       )
+
+  -- so a hop that leads towards t and is in the closed form is in the answer
+  pub in-answer : (x : Axis) → T (leads m n a t x) → (d : Dir) × T (answer m n a t d)
+  in-answer x h = (go x (aims n t x), rw (exact x (aims n t x), same-self (aims n t x)) h)

@@ -7,14 +7,13 @@ use native.Mathlib.Omega.{arith}
 use mir.Facts.{and-yes, or-yes}
 use lib.Dec.{T}
 use Rattle.route.specs.declared.places.Place.{Place}
-use Rattle.route.specs.Grid.{Axis, horiz, vert, Sense, Dir, go, coord, gap, dist}
+use Rattle.route.specs.Grid.{horiz, vert, Sense, coord, gap, dist}
 use Rattle.route.specs.Turns.{Parity, even, odd, parity, corner, local, Rule, rule-table}
-use Rattle.route.specs.Mesh.{Inside, turn, ruled}
-use Rattle.route.specs.Paths.{answer}
+use Rattle.route.specs.Mesh.{turn, ruled}
 use Rattle.route.proofs.Every.{AllS, senses, AllR, rules}
 use Rattle.route.proofs.Tests.{or-l}
 use Rattle.route.proofs.Closed.{across, along}
-use Rattle.route.proofs.Exact.{aims, leads, exact, same-self}
+use Rattle.route.proofs.Exact.{aims, leads}
 
 abbrev hv : Rule → Sense → Sense → Parity → Bool
 hv k s u p = rule-table k p (corner horiz s u)
@@ -41,22 +40,15 @@ opens hv vh (suc dx) zero away f = inl tt
 opens hv vh (suc zero) (suc dy) away f = ⊎-elim (λ g. inl (g 0)) (λ g. inr (g 1)) f
 opens hv vh (suc (suc dx)) (suc dy) away f = ⊎-elim (λ g. inl (or-l (hv 0) (hv 1 && vh 1) (g 0))) (λ g. inr (g (suc (suc dx)))) f
 
--- a packet that starts at one node for another has an answer
-pub connected : (k : Rule) (C R f : ℕ) (n t : Place) → Inside (ruled k C R f) t → 0 < dist n t → (d : Dir) × T (answer (ruled k C R f) n local t d)
+-- a packet that starts at one node for another may go along the row or along the column
+pub open-way : (k : Rule) (C R f : ℕ) (n t : Place) → 0 < dist n t
+    → T (leads (ruled k C R f) n local t horiz) ⊎ T (leads (ruled k C R f) n local t vert)
 unfolding turn dist
-connected k C R f n t inside away =
-    ⊎-elim (in-answer horiz) (in-answer vert)
-    (opens (λ x. hv k s u (parity (coord horiz t + x + f))) (λ x. vh k s u (parity (coord horiz t + x + f)))
+open-way k C R f n t away =
+    let s = aims n t horiz in
+    let u = aims n t vert in
+    opens (λ x. hv k s u (parity (coord horiz t + x + f))) (λ x. vh k s u (parity (coord horiz t + x + f)))
     (gap (coord horiz n) (coord horiz t)) (gap (coord vert n) (coord vert t)) away
     (⊎-elim (λ h. inl (λ x. either-parity (hv k s u) h (parity (coord horiz t + x + f))))
     (λ h. inr (λ x. either-parity (vh k s u) h (parity (coord horiz t + x + f))))
-    (or-yes (hv k s u even && hv k s u odd) (vh k s u even && vh k s u odd) (all-firm k s u))))
-  where
-    s : Sense
-    s = aims n t horiz
-
-    u : Sense
-    u = aims n t vert
-
-    in-answer : (x : Axis) → T (leads (ruled k C R f) n local t x) → (d : Dir) × T (answer (ruled k C R f) n local t d)
-    in-answer x h = (go x (aims n t x), rw (exact (ruled k C R f) n local t inside x (aims n t x), same-self (aims n t x)) h)
+    (or-yes (hv k s u even && hv k s u odd) (vh k s u even && vh k s u odd) (all-firm k s u)))

@@ -1,69 +1,66 @@
 -- What may be relied on of the routing answer, each in terms of specs/ alone: read off the first hop of a shortest path, for every
 -- turn table; and, for the five rules, that there is an answer to start with. Assumes nothing.
-use Prim.Native.Nat.{ℕ, suc, _≤_, _<_}
+use Prim.Native.Nat.{ℕ, suc, _<_}
 use mathlib.Core.Path.{_≡_}
-use mathlib.Core.Logic.{_⊎_, inl, inr, _↔_}
+use mathlib.Core.Logic.{_⊎_, inl, inr, ⊎-elim, _↔_}
 use mathlib.Core.List.{List, [], _∷_}
 use native.Mathlib.Omega.{arith}
-use lib.ListN.{length}
 use lib.Dec.{T}
 use Rattle.route.specs.declared.places.Place.{Place}
-use Rattle.route.specs.Grid.{horiz, Dir, coord, hop, dist}
+use Rattle.route.specs.Grid.{horiz, vert, Dir, coord, hop, dist}
 use Rattle.route.specs.Turns.{Arrival, local, going, Rule}
 use Rattle.route.specs.Mesh.{Mesh, Inside, exists, turn, ruled}
-use Rattle.route.specs.Paths.{same-place, legal, Shortest, answer}
+use Rattle.route.specs.Paths.{same-place, Shortest, answer}
 use Rattle.route.specs.Route.{outputs}
-use Rattle.route.proofs.Shortest as shortest
-use Rattle.route.proofs.Outputs.{set, empty-set}
-use Rattle.route.proofs.Open as opens
+use Rattle.route.proofs.Shortest as hops
+use Rattle.route.proofs.Outputs.{empty-set}
+use Rattle.route.proofs.Exact.{in-answer}
+use Rattle.route.proofs.Open.{open-way}
+-- for every turn table: a direction is in the answer exactly if some shortest legal path begins with it (by-paths); no legal path is
+-- shorter than the distance (none-shorter)
+pub use Rattle.route.proofs.Shortest.{by-paths, none-shorter}
 
 -- ---- for every turn table
 module _ (m : Mesh) (n : Place) (a : Arrival) (t : Place) where
-  -- a direction is in the answer exactly if some shortest legal path begins with it
-  pub by-paths : (d : Dir) → T (answer m n a t d) ↔ ((p : List Dir) × Shortest m n a t (d ∷ p))
-  by-paths = shortest.by-paths m n a t
-
-  -- no legal path is shorter than the distance
-  pub none-shorter : (p : List Dir) → T (legal m n a t p) → dist n t ≤ length p
-  none-shorter p = shortest.enough m t p n a
-
   -- the set is empty exactly if there is no shortest legal path
   pub no-path : (outputs m n a t ≡ 0) ↔ ((p : List Dir) → Shortest m n a t p → ⊥)
-  unfolding outputs set
+  unfolding outputs
   no-path = (
     λ e. let f = empty-set (same-place n t) (answer m n a t) .0 e in none f,
     λ f. empty-set (same-place n t) (answer m n a t) .1 (
-      λ h. f [] (record { lawful = h; least = omega (arith, shortest.home n t .0 h) }),
-      λ d h. let w = by-paths d .0 h in f (d ∷ w .0) (w .1),
+      λ h. f [] (record { lawful = h; least = omega (arith, hops.home n t .0 h) }),
+      λ d h. let w = by-paths m n a t d .0 h in f (d ∷ w .0) (w .1),
     ),
   )
     where
       none : (T (same-place n t) → ⊥) × ((d : Dir) → T (answer m n a t d) → ⊥) → (p : List Dir) → Shortest m n a t p → ⊥
       none f [] s = f .0 (s .lawful)
-      none f (d ∷ p) s = f .1 d (by-paths d .1 (p, s))
+      none f (d ∷ p) s = f .1 d (by-paths m n a t d .1 (p, s))
 
   module _ (d : Dir) (given : T (answer m n a t d)) where
     -- a direction of the answer has a channel
     pub channel : T (exists m n d)
-    channel = let w = by-paths d .0 given in shortest.begun m t n a d (w .0) (w .1 .lawful) .0
+    channel = let w = by-paths m n a t d .0 given in hops.begun m t n a d (w .0) (w .1 .lawful) .0
 
     -- by an allowed turn
     pub allowed-turn : T (turn m (coord horiz n) a d)
-    allowed-turn = let w = by-paths d .0 given in shortest.begun m t n a d (w .0) (w .1 .lawful) .1
+    allowed-turn = let w = by-paths m n a t d .0 given in hops.begun m t n a d (w .0) (w .1 .lawful) .1
 
     -- it leads one closer
     pub closer : dist n t ≡ suc (dist (hop d n) t)
-    closer = let w = by-paths d .0 given in shortest.closer d n t (shortest.first-hop m t (w .1) .0)
+    closer = let w = by-paths m n a t d .0 given in hops.closer d n t (hops.first-hop m t (w .1) .0)
 
     -- to the destination, or to a node that has an answer for whoever arrives so
     pub onward : (dist (hop d n) t ≡ 0) ⊎ ((e : Dir) × T (answer m (hop d n) (going d) t e))
-    onward = let w = by-paths d .0 given in next (w .0) (shortest.first-hop m t (w .1) .1)
+    onward = let w = by-paths m n a t d .0 given in next (w .0) (hops.first-hop m t (w .1) .1)
       where
         next : (p : List Dir) → Shortest m (hop d n) (going d) t p → (dist (hop d n) t ≡ 0) ⊎ ((e : Dir) × T (answer m (hop d n) (going d) t e))
         next [] s = inl (omega (arith, s .least))
-        next (e ∷ p) s = inr (e, shortest.by-paths m (hop d n) (going d) t e .1 (p, s))
+        next (e ∷ p) s = inr (e, by-paths m (hop d n) (going d) t e .1 (p, s))
 
 -- ---- for the five rules
 -- a packet that starts at one node for another has an answer
 pub connected : (k : Rule) (C R f : ℕ) (n t : Place) → Inside (ruled k C R f) t → 0 < dist n t → (d : Dir) × T (answer (ruled k C R f) n local t d)
-connected = opens.connected
+connected k C R f n t inside away =
+    let m = ruled k C R f in
+    ⊎-elim (in-answer m n local t inside horiz) (in-answer m n local t inside vert) (open-way k C R f n t away)

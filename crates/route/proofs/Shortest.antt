@@ -57,19 +57,20 @@ module _ (m : Mesh) (t : Place) where
       let y = and-yes (turn m (coord horiz n) a d) (legal m (hop d n) (going d) t p) (x .1) in
       (x .0, y .0, y .1)
 
-  pub enough : (p : List Dir) (n : Place) (a : Arrival) → T (legal m n a t p) → dist n t ≤ length p
-  enough [] n a l = omega (arith, home n t .0 l)
-  enough (d ∷ p) n a l =
+  -- no legal path is shorter than the distance
+  pub none-shorter : (p : List Dir) (n : Place) (a : Arrival) → T (legal m n a t p) → dist n t ≤ length p
+  none-shorter [] n a l = omega (arith, home n t .0 l)
+  none-shorter (d ∷ p) n a l =
       let b = begun n a d p l in
-      ⊎-elim (λ z. omega (arith, further m d n t (b .0) z, enough p (hop d n) (going d) (b .2)))
-      (λ z. omega (arith, closer d n t z, enough p (hop d n) (going d) (b .2)))
+      ⊎-elim (λ z. omega (arith, further m d n t (b .0) z, none-shorter p (hop d n) (going d) (b .2)))
+      (λ z. omega (arith, closer d n t z, none-shorter p (hop d n) (going d) (b .2)))
       (zero-or (ahead d n t))
 
   pub first-hop : {n : Place} {a : Arrival} {d : Dir} {p : List Dir} → Shortest m n a t (d ∷ p)
       → (0 < ahead d n t) × Shortest m (hop d n) (going d) t p
   first-hop {n} {a} {d} {p} s =
       let b = begun n a d p (s .lawful) in
-      ⊎-elim (λ z. absurd (omega (arith, further m d n t (b .0) z, enough p (hop d n) (going d) (b .2), s .least)))
+      ⊎-elim (λ z. absurd (omega (arith, further m d n t (b .0) z, none-shorter p (hop d n) (going d) (b .2), s .least)))
       (λ z. (z, record { lawful = b .2; least = omega (arith, closer d n t z, s .least) }))
       (zero-or (ahead d n t))
 

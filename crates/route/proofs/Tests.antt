@@ -1,10 +1,11 @@
 -- Laws of tests: each by the cases of its Booleans. Assumes nothing.
 use Prim.Native.Nat.{ℕ, zero, suc, _<_}
-use mathlib.Core.Path.{_≡_, refl, subst}
-use mathlib.Core.Bool.{Bool, true, false, _||_}
+use mathlib.Core.Path.{_≡_, refl, sym, subst, _∙_}
+use mathlib.Core.Bool.{Bool, true, false, _||_, not}
 use mathlib.Core.Logic.{_⊎_, inl, inr, _↔_}
 use native.Mathlib.Omega.{arith}
 use lib.Dec.{T}
+use borrow.Author.Tests.{not-true, not-false}
 
 pub or-l : (a b : Bool) → T a → T (a || b)
 or-l true b t = tt
@@ -37,3 +38,16 @@ neither {a = true} h = absurd (subst T h tt)
 pub fails : (b : Bool) → (T b → ⊥) → b ≡ false
 fails true f = absurd (f tt)
 fails false f = refl
+
+-- ---- what a branch has taught of a test that a callee made
+pub no-if-not : {r x : Bool} → r ≡ x → not r ≡ true → x ≡ false
+no-if-not {r} e h = rw (sym e) (not-true r h)
+
+pub yes-if-not : {r x : Bool} → r ≡ x → not r ≡ false → x ≡ true
+yes-if-not {r} e h = rw (sym e) (not-false r h)
+
+pub no-if : {r x : Bool} → r ≡ x → r ≡ false → x ≡ false
+no-if e h = sym e ∙ h
+
+pub yes-if : {r x : Bool} → r ≡ x → r ≡ true → x ≡ true
+yes-if e h = sym e ∙ h

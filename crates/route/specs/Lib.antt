@@ -6,3 +6,4 @@ pub mod Numbers
 pub mod Paths
 pub mod Route
 pub mod Marks
+pub mod Coded

@@ -3,9 +3,8 @@ use Prim.Native.Nat.{ℕ, _+_, _<_}
 use mathlib.Core.Bool.{Bool}
 use lib.Dec.{ltb}
 use Rattle.route.specs.declared.places.Place.{Place}
-use Rattle.route.specs.declared.meshes.Mesh.{Mesh as Coded}
 use Rattle.route.specs.Grid.{Axis, horiz, vert, Sense, less, more, Dir, go, coord}
-use Rattle.route.specs.Turns.{parity, Table, Arrival, allowed, Rule, rule-table, bits}
+use Rattle.route.specs.Turns.{parity, Table, Arrival, allowed, Rule, rule-table}
 
 -- the columns, the rows, the parity of the first column and the turn table
 pub record Mesh : Type 0 where
@@ -39,7 +38,3 @@ turn m x a d = allowed (m .table (parity (x + m .first))) a d
 -- the mesh of C columns and R rows under a published rule, its first column of parity f
 abbrev pub ruled : Rule → ℕ → ℕ → ℕ → Mesh
 ruled k C R f = record { columns = C; rows = R; first = f; table = rule-table k }
-
--- the mesh that the code's value stands for
-abbrev pub meant : Coded → Mesh
-meant m = record { columns = m .columns; rows = m .rows; first = 0; table = bits (m .table) }

@@ -4,17 +4,19 @@ use mathlib.Core.Bool.{Bool, true, _&&_, _||_, not}
 use lib.Dec.{ltb, leb, eqb}
 use Rattle.route.specs.declared.places.Place.{Place}
 use Rattle.route.specs.declared.routes.Routed.{Routed}
-use Rattle.route.specs.Grid.{pick, west, east, south, north, back}
+use Rattle.route.specs.Grid.{pick, Dir, west, east, south, north, back}
 use Rattle.route.specs.Turns.{Arrival, local, going}
 use Rattle.route.specs.Mesh.{Mesh, exists, ruled}
 use Rattle.route.specs.Numbers.{place-of, arrival-of, rule-of}
 use Rattle.route.specs.Paths.{same-place, answer}
 
--- the values of the directions in the answer, added; 16, deliver, at the destination
+-- the values of the directions in a set, added
+abbrev pub values : (Dir → Bool) → ℕ
+values member = pick (member west) 1 0 + pick (member east) 2 0 + pick (member south) 4 0 + pick (member north) 8 0
+
+-- the set of outputs: the answer's, or 16, deliver, at the destination
 unfoldable pub outputs : Mesh → Place → Arrival → Place → ℕ
-outputs m n a t =
-    pick (same-place n t) 16
-    (pick (answer m n a t west) 1 0 + pick (answer m n a t east) 2 0 + pick (answer m n a t south) 4 0 + pick (answer m n a t north) 8 0)
+outputs m n a t = pick (same-place n t) 16 (values (answer m n a t))
 
 -- a side is not 2 to 16 long
 abbrev pub off-side : ℕ → Bool

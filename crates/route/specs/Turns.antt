@@ -1,5 +1,5 @@
 -- Turns, turn tables by the column's parity, and the five published rules. Assumes nothing.
-use Prim.Native.Nat.{ℕ, zero, suc, _+_, _/_, _%_, _^_}
+use Prim.Native.Nat.{ℕ, zero, suc, _%_}
 use mathlib.Core.Bool.{Bool, true, false, _||_, not}
 use mathlib.Core.List.{List, [], _∷_}
 use lib.Dec.{eqb}
@@ -32,10 +32,6 @@ corner horiz more more = EN
 corner horiz more less = ES
 corner horiz less more = WN
 corner horiz less less = WS
-
--- the turn from a direction to one along the other axis
-abbrev pub turned : Dir → Dir → Turn
-turned (go x s) (go y u) = corner x s u
 
 -- by the parity of the column, which turns are allowed there
 abbrev pub Table : Type 0
@@ -74,7 +70,7 @@ forbidden negative-first p = NW ∷ ES ∷ []
 forbidden odd-even even = EN ∷ ES ∷ []
 forbidden odd-even odd = NW ∷ SW ∷ []
 
--- a turn's place in the word of a table
+-- a turn's number, in the order above
 abbrev pub bit : Turn → ℕ
 bit NE = 0
 bit NW = 1
@@ -93,8 +89,3 @@ among (x ∷ xs) t = eqb (bit x) (bit t) || among xs t
 -- a rule as a table: what it does not forbid
 abbrev pub rule-table : Rule → Table
 rule-table k p t = not (among (forbidden k p) t)
-
--- a word of 16 bits as a table, 1 for allowed: the low eight for even columns, the high eight for odd ones
-abbrev pub bits : ℕ → Table
-bits w even t = eqb (w / 2 ^ bit t % 2) 1
-bits w odd t = eqb (w / 2 ^ (8 + bit t) % 2) 1

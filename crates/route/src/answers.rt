@@ -9,7 +9,8 @@ ghost use mathlib.Core.Bool.{_||_};
 ghost use Prim.Native.Nat.{_+_, _^_, _≤_, _<_};
 ghost use lib.Dec.{ltb};
 ghost use Rattle.route.specs.Grid.{pick, gap, west, east, south, north};
-ghost use Rattle.route.specs.Mesh.{Inside, meant};
+ghost use Rattle.route.specs.Mesh.{Inside};
+ghost use Rattle.route.specs.Coded.{meant};
 ghost use Rattle.route.specs.Numbers.{arrival-of};
 ghost use Rattle.route.specs.Paths.{answer};
 ghost use Rattle.route.specs.Route.{outputs};
@@ -51,13 +52,28 @@ fn row_leads(m: Mesh, here: Place, arrival: u8, there: Place) -> bool
         || answer (meant m) here (arrival-of arrival) there east ⌝ }
 {
     let c = course_to(here, there);
+    if c.dx == 0 {
+        return false;
+    }
+    if !m.turn_ok(here.column, arrival, c.h) {
+        return false;
+    }
+    if c.dy == 0 {
+        return true;
+    }
+    if m.turn_ok(there.column, c.h, c.v) {
+        return true;
+    }
+    if c.dx == 1 {
+        return false;
+    }
     // Turns go by parity, so the column past the destination's stands for the one before it.
     let past = there.column.0 + 1;
     let beside = Column(past);
-    let turns_beside = m.turn_ok(beside, c.h, c.v) & m.turn_ok(beside, c.v, c.h);
-    let turns_there = (c.dy == 0) | m.turn_ok(there.column, c.h, c.v);
-    let goes_on = turns_there | ((2 <= c.dx) & turns_beside);
-    m.turn_ok(here.column, arrival, c.h) & ((c.dx != 0) & goes_on)
+    if !m.turn_ok(beside, c.h, c.v) {
+        return false;
+    }
+    m.turn_ok(beside, c.v, c.h)
 }
 
 // Does a shortest legal path begin along the column?
@@ -68,8 +84,16 @@ fn column_leads(m: Mesh, here: Place, arrival: u8, there: Place) -> bool
         || answer (meant m) here (arrival-of arrival) there north ⌝ }
 {
     let c = course_to(here, there);
-    let goes_on = (c.dx == 0) | m.turn_ok(here.column, c.v, c.h);
-    m.turn_ok(here.column, arrival, c.v) & ((c.dy != 0) & goes_on)
+    if c.dy == 0 {
+        return false;
+    }
+    if !m.turn_ok(here.column, arrival, c.v) {
+        return false;
+    }
+    if c.dx == 0 {
+        return true;
+    }
+    m.turn_ok(here.column, c.v, c.h)
 }
 
 // A direction's value in a set where it is in it, else 0.

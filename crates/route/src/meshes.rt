@@ -6,9 +6,10 @@ ghost use mathlib.Core.Path.{_≡_};
 ghost use Prim.Native.Nat.{_/_, _%_, _^_, _<_};
 ghost use lib.Dec.{eqb};
 ghost use Rattle.route.specs.Grid.{back};
-ghost use Rattle.route.specs.Turns.{bit, turned};
-ghost use Rattle.route.specs.Mesh.{Inside, exists, turn, ruled, meant};
-ghost use Rattle.route.specs.Numbers.{dir-of, arrival-of, rule-of};
+ghost use Rattle.route.specs.Turns.{bit};
+ghost use Rattle.route.specs.Coded.{turned, meant};
+ghost use Rattle.route.specs.Mesh.{Inside, exists, turn, ruled};
+ghost use Rattle.route.specs.Numbers.{number, dir-of, arrival-of, rule-of};
 ghost use Rattle.route.specs.Route.{off-side, arrives};
 
 // The arrival of a packet that starts at a node.
@@ -67,7 +68,7 @@ fn turn_bit(from: u8, to: u8) -> u8
 // The direction opposite to one.
 fn opposite(direction: u8) -> u8
     requires { ⌜ direction < 4 ⌝ }
-    ensures { λ r. ⌜ r < 4 ⌝ ∗ ⌜ dir-of r ≡ back (dir-of direction) ⌝ }
+    ensures { λ r. ⌜ r < 4 ⌝ ∗ ⌜ r ≡ number (back (dir-of direction)) ⌝ }
 {
     2 * (direction / 2) + (direction + 1) % 2
 }

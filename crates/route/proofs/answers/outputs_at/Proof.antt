@@ -1,8 +1,6 @@
 -- At the destination at once; else the two axes make up the set. Assumes nothing.
 use mathlib.Core.Path.{refl, sym, _∙_}
 use borrow.Author.Needs.{needs}
-use Rattle.route.specs.Mesh.{meant}
-use Rattle.route.specs.Numbers.{arrival-of}
 use Rattle.route.specs.Route.{outputs}
 use Rattle.route.proofs.Outputs.{set-is}
 use Rattle.route.proofs.answers.outputs_at.Statement.{statement}
@@ -35,10 +33,9 @@ add-result c = search needs
 
 returns-2 : tie.Need-returns-2
 returns-2 c =
-    let w = c .before .before .before .before .course-to .ensures in
-    let x = c .before .before .before .before .before .before .before .args in
-    rw (c .value-if2 .ensures .1, c .before .before .value-if .ensures .1, c .before .column-leads .ensures, c .before .before .before .row-leads .ensures, w .1, w .3)
-    (set-is (meant (x .m)) (x .here) (arrival-of (x .arrival)) (x .there) (search needs) (sym (c .before .before .before .before .before .before .is .ensures) ∙ c .before .before .before .before .before .if1 .left))
+    let led = c .before .before .before .before .course-to .ensures in
+    rw (c .value-if2 .ensures .1, c .before .before .value-if .ensures .1, c .before .column-leads .ensures, c .before .before .before .row-leads .ensures)
+    (set-is _ _ _ _ (search needs) led (sym (c .before .before .before .before .before .before .is .ensures) ∙ c .before .before .before .before .before .if1 .left))
 
 pub outputs-at-spec : {M : Type 1} → statement M
 outputs-at-spec =

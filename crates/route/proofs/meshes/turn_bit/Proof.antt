@@ -1,7 +1,8 @@
--- Computed at each pair of directions. Assumes nothing.
+-- The turn's number by arithmetic on its directions'. Assumes nothing.
 use native.Mathlib.Omega.{arith}
 use borrow.Author.Needs.{needs}
-use Rattle.route.proofs.Codes.{turn-place}
+use Rattle.route.proofs.Every.{at-four}
+use Rattle.route.proofs.Codes.{bit-number}
 use Rattle.route.proofs.meshes.turn_bit.Statement.{statement}
 use Rattle.route.proofs.meshes.turn_bit.Tie as tie
 
@@ -27,7 +28,9 @@ add-result-4 : tie.Need-add-result-4
 add-result-4 c = search needs
 
 returns : tie.Need-returns
-returns c = (omega arith, turn-place (c .args .from) (c .args .to) (omega arith) (omega arith))
+returns c =
+    let d = c .args .to in
+    (omega arith, at-four (c .args .from) (omega arith) (λ e. rw e (omega (arith, bit-number 0 d (omega arith) (omega arith)))) (λ e. rw e (omega (arith, bit-number 1 d (omega arith) (omega arith)))) (λ e. rw e (omega (arith, bit-number 2 d (omega arith) (omega arith)))) (λ e. rw e (omega (arith, bit-number 3 d (omega arith) (omega arith)))))
 
 pub turn-bit-spec : {M : Type 1} → statement M
 turn-bit-spec =

@@ -76,10 +76,14 @@ refused-requires-5 : tie.Need-refused-requires-5
 refused-requires-5 c κs = search needs
 
 returns-5 : tie.Need-returns-5
-returns-5 c = search refused-11
+returns-5 c =
+    refused-11 _ _ _ _ _ _ (c .before .before .before .before .before .before .before .before .before .before .before .before .off-side .ensures) (c .before .before .before .before .before .before .before .before .before .before .before .off-side2 .ensures) (c .before .before .before .before .before .before .before .before .before .before .if1 .left) (c .before .before .before .before .before .before .before .before .before .if2 .left) (c .before .before .before .before .before .before .before .before .if3 .left)
+    (c .before .before .before .before .before .before .before .mesh-of .ensures) (c .before .before .before .before .before .before .place-of .ensures) (c .before .before .before .before .before .arrives .ensures) (c .before .before .before .place-of2 .ensures) (c .before .before .before .before .if4 .left) (c .before .before .outputs-at .ensures) (omega arith) (c .refused5 .ensures)
 
 returns-6 : tie.Need-returns-6
-returns-6 c = search given
+returns-6 c =
+    given _ _ _ _ _ _ (c .before .before .before .before .before .before .before .before .before .before .before .off-side .ensures) (c .before .before .before .before .before .before .before .before .before .before .off-side2 .ensures) (c .before .before .before .before .before .before .before .before .before .if1 .left) (c .before .before .before .before .before .before .before .before .if2 .left) (c .before .before .before .before .before .before .before .if3 .left)
+    (c .before .before .before .before .before .before .mesh-of .ensures) (c .before .before .before .before .before .place-of .ensures) (c .before .before .before .before .arrives .ensures) (c .before .before .place-of2 .ensures) (c .before .before .before .if4 .left) (c .before .outputs-at .ensures) (omega arith)
 
 pub mesh-route-spec : {M : Type 1} → statement M
 mesh-route-spec =

@@ -2,8 +2,10 @@
 use mathlib.Core.Path.{_∙_}
 use native.Mathlib.Omega.{arith}
 use borrow.Author.Needs.{needs}
-use Rattle.route.specs.Mesh.{meant}
-use Rattle.route.proofs.Codes.{arrives-going, not-going}
+use Rattle.route.specs.Grid.{back}
+use Rattle.route.specs.Numbers.{dir-of}
+use Rattle.route.specs.Coded.{meant}
+use Rattle.route.proofs.Codes.{dir-of-number, arrives-going, not-going}
 use Rattle.route.proofs.meshes.Mesh.arrives.Statement.{statement}
 use Rattle.route.proofs.meshes.Mesh.arrives.Tie as tie
 
@@ -16,7 +18,8 @@ exists-requires c κs = search needs
 returns : tie.Need-returns
 returns c =
     let x = c .before .before .before .args in
-    c .exists .ensures ∙ rw (c .before .opposite .ensures .1) (arrives-going (meant (x .self)) (x .here) (x .arrival) (omega arith))
+    c .exists .ensures
+    ∙ rw (c .before .opposite .ensures .1, dir-of-number (back (dir-of (x .arrival)))) (arrives-going (meant (x .self)) (x .here) (x .arrival) (omega arith))
 
 returns-2 : tie.Need-returns-2
 returns-2 c = not-going (meant (c .before .args .self)) (c .before .args .here) (c .before .args .arrival) (omega arith)

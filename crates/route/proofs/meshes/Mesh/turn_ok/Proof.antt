@@ -4,9 +4,10 @@ use mathlib.Core.Path.{_≡_, refl, _∙_}
 use native.Mathlib.Nat.{add-zero}
 use native.Mathlib.Omega.{arith}
 use borrow.Author.Needs.{needs}
-use Rattle.route.specs.Turns.{parity, turned, bits}
+use Rattle.route.specs.Turns.{parity}
 use Rattle.route.specs.Mesh.{turn}
 use Rattle.route.specs.Numbers.{dir-of}
+use Rattle.route.specs.Coded.{turned, bits}
 use Rattle.route.proofs.Codes.{one-axis, two-axes, bit-of}
 use Rattle.route.proofs.meshes.Mesh.turn_ok.Statement.{statement}
 use Rattle.route.proofs.meshes.Mesh.turn_ok.Tie as tie
