@@ -3,6 +3,7 @@
 #ifndef MESH_H
 #define MESH_H
 
+#include <stddef.h>
 #include <stdint.h>
 
 /* Directions. An arrival is the way the packet was travelling, MESH_LOCAL where it starts. */
@@ -26,7 +27,9 @@ enum {
     MESH_BAD_RULE = 2,    /* a rule above 4 */
     MESH_BAD_NODE = 3,    /* a node outside the mesh */
     MESH_BAD_ARRIVAL = 4, /* an arrival above 4, or from off the mesh */
-    MESH_NO_PATH = 11     /* no legal shortest path */
+    MESH_BAD_SIZE = 7,    /* lent memory of a wrong size */
+    MESH_NO_PATH = 11,    /* no legal shortest path */
+    MESH_NOT_RISING = 14  /* a numbering does not rise */
 };
 
 typedef struct {
@@ -37,5 +40,23 @@ typedef struct {
 /* The outputs at a node for a packet that arrived travelling `arrival` and goes to `destination`. */
 Routed mesh_route(uint8_t columns, uint8_t rows, uint8_t rule, uint16_t node, uint8_t arrival,
                   uint16_t destination);
+
+/* A numbering has 4 * columns * rows words, one for each channel: the channel that leaves a node by
+ * a direction has the number 4 * node + direction. `length` counts words. */
+
+/* Fills a list with the house numbers, 0 where no channel exists. Returns the refusal; with one the
+ * list is as it was. */
+uint8_t mesh_number(uint8_t columns, uint8_t rows, uint8_t rule, uint16_t *list, size_t length);
+
+typedef struct {
+    uint8_t refusal;
+    uint16_t incoming; /* the pair is 0, 0 but with MESH_NOT_RISING */
+    uint16_t outgoing;
+} Checked;
+
+/* Do a list's numbers rise at every turn by 90 degrees that the rule allows? If not, the refusal is
+ * MESH_NOT_RISING, with the first pair of channels that fails, by incoming, then outgoing. */
+Checked mesh_check(uint8_t columns, uint8_t rows, uint8_t rule, const uint16_t *list,
+                   size_t length);
 
 #endif

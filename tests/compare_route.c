@@ -4,14 +4,11 @@
  * was given, and every refusal and set that can occur did. */
 #include "../include/mesh.h"
 #include "../second/route.h"
+#include "compare.h"
 
-#include <stdbool.h>
-#include <stdint.h>
-#include <stdio.h>
 #include <string.h>
 
-enum { SIDE_MIN = 2, SIDE_MAX = 16, RULES = 5, ARRIVALS = 5, VALUES = 256 };
-enum { SHOWN = 8, STRAY_QUESTIONS = 300000 };
+enum { STRAY_QUESTIONS = 300000 };
 
 struct question {
     uint8_t columns, rows, rule;
@@ -20,10 +17,8 @@ struct question {
     uint16_t destination;
 };
 
-static struct {
-    unsigned long asked, differ, unexpected;
-    unsigned long refusals[VALUES], sets[VALUES]; /* as the archive answered; sets if accepted */
-} tally;
+/* How often the archive gave each refusal, and with acceptance each set. */
+static unsigned long refusals[VALUES], sets[VALUES];
 
 static void show(const char *what, const struct question *q, struct second_answer archive,
                  struct second_answer second)
@@ -47,9 +42,9 @@ static void ask(const struct question *q, const char *what, const struct second_
     struct second_answer second =
         second_route(q->columns, q->rows, q->rule, q->node, q->arrival, q->destination);
     tally.asked++;
-    tally.refusals[routed.refusal]++;
+    refusals[routed.refusal]++;
     if (routed.refusal == 0)
-        tally.sets[routed.outputs]++;
+        sets[routed.outputs]++;
     if (!same(archive, second) && tally.differ++ < SHOWN)
         show("differ", q, archive, second);
     if (wanted != NULL && (!same(archive, *wanted) || !same(second, *wanted)) &&
@@ -141,36 +136,13 @@ static void ask_mesh(unsigned columns, unsigned rows)
     }
 }
 
-static void ask_every_mesh(void)
-{
-    for (unsigned columns = SIDE_MIN; columns <= SIDE_MAX; columns++)
-        for (unsigned rows = SIDE_MIN; rows <= SIDE_MAX; rows++)
-            ask_mesh(columns, rows);
-}
+enum { ARGUMENTS = 6 };
 
-/* For each argument a value in range, then four out of range with the refusal they call for. */
-enum { ARGUMENTS = 6, CHOICES = 5 };
-
-struct choices {
-    unsigned values[CHOICES];
-    unsigned refusal;
-};
-
-/* Asks with every combination of the choices: each argument wrong alone, each two, and so on.
- * With several wrong the least number is due, the order of refusals being 1, 2, 3, 4. */
 static void ask_combinations(const struct choices choices[ARGUMENTS])
 {
-    unsigned combinations = 1;
-    for (unsigned i = 0; i < ARGUMENTS; i++)
-        combinations *= CHOICES;
-    for (unsigned combination = 0; combination < combinations; combination++) {
-        unsigned value[ARGUMENTS], rest = combination;
-        struct second_answer wanted = {VALUES, 0};
-        for (unsigned i = 0; i < ARGUMENTS; i++, rest /= CHOICES) {
-            value[i] = choices[i].values[rest % CHOICES];
-            if (rest % CHOICES != 0 && choices[i].refusal < wanted.refusal)
-                wanted.refusal = choices[i].refusal;
-        }
+    for (unsigned combination = 0; combination < combinations(ARGUMENTS); combination++) {
+        unsigned value[ARGUMENTS];
+        struct second_answer wanted = {choose(choices, ARGUMENTS, combination, value), 0};
         struct question q = {(uint8_t)value[0],  (uint8_t)value[1], (uint8_t)value[2],
                              (uint16_t)value[3], (uint8_t)value[4], (uint16_t)value[5]};
         ask(&q, "refusal order", combination == 0 ? NULL : &wanted);
@@ -188,9 +160,9 @@ static void ask_wrong_arguments(unsigned columns, unsigned rows, unsigned rule, 
     unsigned off_row = north_east ? MESH_WEST : MESH_EAST;
     unsigned off_column = north_east ? MESH_SOUTH : MESH_NORTH;
     const struct choices choices[ARGUMENTS] = {
-        {{columns, 0, 1, 17, 255}, MESH_BAD_SIDE},
-        {{rows, 0, 1, 17, 255}, MESH_BAD_SIDE},
-        {{rule, 5, 6, 128, 255}, MESH_BAD_RULE},
+        side_choices(columns),
+        side_choices(rows),
+        rule_choices(rule),
         {{node, nodes, nodes + 1, 256 + node, 65535}, MESH_BAD_NODE},
         {{MESH_LOCAL, 5, 255, off_row, off_column}, MESH_BAD_ARRIVAL},
         {{destination, nodes, nodes + 1, 256 + destination, 65535}, MESH_BAD_NODE},
@@ -207,22 +179,6 @@ static void ask_refusal_orders(void)
                 ask_wrong_arguments(meshes[i][0], meshes[i][1], rule, corners & 1, corners & 2);
 }
 
-/* Xorshift from a fixed seed: the same questions in every run. */
-static unsigned below(unsigned bound)
-{
-    static uint32_t state = 20031121;
-    state ^= state << 13;
-    state ^= state >> 17;
-    state ^= state << 5;
-    return (state >> 4) % bound;
-}
-
-/* One of the given values, or as often one below `bound`. */
-static unsigned edge_or_below(const uint8_t *edges, size_t count, unsigned bound)
-{
-    return below(2) ? edges[below((unsigned)count)] : below(bound);
-}
-
 static uint16_t stray_node(unsigned nodes)
 {
     switch (below(4)) {
@@ -237,52 +193,28 @@ static uint16_t stray_node(unsigned nodes)
 
 static void ask_stray_questions(void)
 {
-    static const uint8_t sides[] = {0, 1, 2, 2, 2, 3, 4, 5, 8, 11, 15, 16, 16, 16, 17, 255};
-    static const uint8_t rules[] = {0, 0, 1, 1, 2, 2, 3, 3, 4, 4, 5, 255};
-    static const uint8_t arrivals[] = {0, 0, 1, 1, 2, 2, 3, 3, 4, 4, 5, 255};
     for (unsigned i = 0; i < STRAY_QUESTIONS; i++) {
-        unsigned bound = below(4) ? 5 : VALUES; /* random rules and arrivals mostly in range */
         struct question q;
-        q.columns = (uint8_t)edge_or_below(sides, sizeof sides, below(4) ? 17 : VALUES);
-        q.rows = (uint8_t)edge_or_below(sides, sizeof sides, below(4) ? 17 : VALUES);
-        q.rule = (uint8_t)edge_or_below(rules, sizeof rules, bound);
+        q.columns = stray_side();
+        q.rows = stray_side();
+        q.rule = stray_of_five();
         q.node = stray_node((unsigned)q.columns * q.rows);
-        q.arrival = (uint8_t)edge_or_below(arrivals, sizeof arrivals, bound);
+        q.arrival = stray_of_five();
         q.destination = stray_node((unsigned)q.columns * q.rows);
         ask(&q, NULL, NULL);
     }
 }
 
-/* Prints how often each number was answered; false if one of those due never was. */
-static bool all_seen(const char *what, const unsigned long *counts, const uint8_t *due, size_t n)
-{
-    bool all = true;
-    printf("%s:", what);
-    for (unsigned value = 0; value < VALUES; value++)
-        if (counts[value] != 0)
-            printf(" %u (%lu)", value, counts[value]);
-    printf("\n");
-    for (size_t i = 0; i < n; i++)
-        if (counts[due[i]] == 0) {
-            printf("%s: %u never occurred\n", what, due[i]);
-            all = false;
-        }
-    return all;
-}
-
 int main(void)
 {
-    static const uint8_t refusals[] = {0, 1, 2, 3, 4, 11};
-    static const uint8_t sets[] = {1, 2, 4, 5, 6, 8, 9, 10, 16};
+    static const uint8_t refusals_due[] = {0, 1, 2, 3, 4, 11};
+    static const uint8_t sets_due[] = {1, 2, 4, 5, 6, 8, 9, 10, 16};
     ask_marked_cases();
     ask_single_turns();
     ask_refusal_orders();
     ask_stray_questions();
-    ask_every_mesh();
-    bool seen = all_seen("refusals", tally.refusals, refusals, sizeof refusals);
-    seen = all_seen("sets", tally.sets, sets, sizeof sets) && seen;
-    if (tally.unexpected != 0)
-        printf("known answers missed: %lu\n", tally.unexpected);
-    printf("route: %lu questions asked, %lu differ\n", tally.asked, tally.differ);
-    return seen && tally.unexpected == 0 && tally.differ == 0 ? 0 : 1;
+    for_every_mesh(ask_mesh);
+    bool seen = all_seen("refusals", refusals, refusals_due, sizeof refusals_due);
+    seen = all_seen("sets", sets, sets_due, sizeof sets_due) && seen;
+    return verdict("route", seen);
 }

@@ -3,20 +3,21 @@ use Prim.Native.Nat.{ℕ, zero, suc, _+_, _*_, _-_, _/_, _%_, _^_, _≤_, _<_}
 use mathlib.Core.Path.{_≡_, refl, sym}
 use mathlib.Core.Bool.{Bool, Bool·beq, true, false, not}
 use mathlib.Core.List.{[], _∷_}
-use native.Mathlib.Omega.{arith}
 use native.Mathlib.Nat.{zero-add}
+use native.Mathlib.Omega.{arith}
 use mir.Facts.{and-yes}
 use lib.ListN.{getD}
 use lib.Dec.{T, leb, eqb, leb→le}
 use borrow.Author.Tests.{lt-leb, ne-eqb, not-false}
 use Rattle.route.specs.declared.places.Place.{Place}
 use Rattle.route.specs.Grid.{Dir, back}
-use Rattle.route.specs.Turns.{Parity, even, odd, parity-at, Turn, Table, allowed, xy, west-first, north-last, negative-first, odd-even, bit, rule-table}
+use Rattle.route.specs.Turns.{Parity, even, odd, parity-at, Turn, Table, going, allowed, xy, west-first, north-last, negative-first, odd-even, bit, rule-table}
 use Rattle.route.specs.Mesh.{Mesh, exists, ruled}
 use Rattle.route.specs.Numbers.{number, dir-of, arrival-of, rule-of}
 use Rattle.route.specs.Route.{from-mesh, arrives}
+use Rattle.route.specs.Check.{bends}
 use Rattle.route.specs.Coded.{turned, bits, meant}
-use Rattle.route.proofs.Every.{dirs, AllT, turns, four, four-four}
+use Rattle.route.proofs.Every.{dirs, AllT, turns, four, four-four, one-axis, two-axes}
 
 -- ---- turns
 -- a turn's number, by the numbers of its directions: from the row 4 on, from west or south 2 on, to west or south 1 on
@@ -24,24 +25,21 @@ pub bit-number : (a d : ℕ) → a < 4 → d < 4 → bit (turned (dir-of a) (dir
 bit-number = four-four (λ a d. bit (turned (dir-of a) (dir-of d)) ≡ 4 * (1 - a / 2) + 2 * (1 - a % 2) + (1 - d % 2)) (omega arith)
 
 -- on one axis straight on is allowed, and back is not
-pub one-axis : (turns : Turn → Bool) (a d : ℕ) → a < 4 → d < 4 → a / 2 ≡ d / 2 → eqb a d ≡ allowed turns (arrival-of a) (dir-of d)
-one-axis turns =
-    four-four (λ a d. a / 2 ≡ d / 2 → eqb a d ≡ allowed turns (arrival-of a) (dir-of d)) (
-      (λ e. refl, λ e. refl, λ e. absurd (omega arith), λ e. absurd (omega arith)),
-      (λ e. refl, λ e. refl, λ e. absurd (omega arith), λ e. absurd (omega arith)),
-      (λ e. absurd (omega arith), λ e. absurd (omega arith), λ e. refl, λ e. refl),
-      (λ e. absurd (omega arith), λ e. absurd (omega arith), λ e. refl, λ e. refl),
-    )
+pub straight-or-back : (turns : Turn → Bool) (a d : ℕ) → a < 4 → d < 4 → a / 2 ≡ d / 2 → eqb a d ≡ allowed turns (arrival-of a) (dir-of d)
+straight-or-back turns =
+    one-axis (λ a d. eqb a d ≡ allowed turns (arrival-of a) (dir-of d)) ((refl, refl, refl, refl), (refl, refl, refl, refl))
 
 -- from one axis to the other the turn decides
-pub two-axes : (turns : Turn → Bool) (a d : ℕ) → a < 4 → d < 4 → (a / 2 ≡ d / 2 → ⊥) → turns (turned (dir-of a) (dir-of d)) ≡ allowed turns (arrival-of a) (dir-of d)
-two-axes turns =
-    four-four (λ a d. (a / 2 ≡ d / 2 → ⊥) → turns (turned (dir-of a) (dir-of d)) ≡ allowed turns (arrival-of a) (dir-of d)) (
-      (λ e. absurd (e refl), λ e. absurd (e refl), λ e. refl, λ e. refl),
-      (λ e. absurd (e refl), λ e. absurd (e refl), λ e. refl, λ e. refl),
-      (λ e. refl, λ e. refl, λ e. absurd (e refl), λ e. absurd (e refl)),
-      (λ e. refl, λ e. refl, λ e. absurd (e refl), λ e. absurd (e refl)),
-    )
+pub by-turn : (turns : Turn → Bool) (a d : ℕ) → a < 4 → d < 4 → (a / 2 ≡ d / 2 → ⊥) → turns (turned (dir-of a) (dir-of d)) ≡ allowed turns (arrival-of a) (dir-of d)
+by-turn turns =
+    two-axes (λ a d. turns (turned (dir-of a) (dir-of d)) ≡ allowed turns (arrival-of a) (dir-of d)) ((refl, refl, refl, refl), (refl, refl, refl, refl))
+
+-- and that is by 90 degrees
+pub bends-not : (a d : ℕ) → a < 4 → d < 4 → a / 2 ≡ d / 2 → bends (dir-of a) (dir-of d) ≡ false
+bends-not = one-axis (λ a d. bends (dir-of a) (dir-of d) ≡ false) ((refl, refl, refl, refl), (refl, refl, refl, refl))
+
+pub bends-so : (a d : ℕ) → a < 4 → d < 4 → (a / 2 ≡ d / 2 → ⊥) → bends (dir-of a) (dir-of d) ≡ true
+bends-so = two-axes (λ a d. bends (dir-of a) (dir-of d) ≡ true) ((refl, refl, refl, refl), (refl, refl, refl, refl))
 
 -- the bit of a turn in a column of the parity p
 pub bit-of : (w p : ℕ) (t : Turn) → p < 2 → eqb (w / 2 ^ (8 * p + bit t) % 2) 1 ≡ bits w (parity-at p) t
@@ -56,6 +54,12 @@ back-number = four (λ d. number (back (dir-of d)) ≡ 2 * (d / 2) + (1 - d % 2)
 
 pub dir-of-number : (d : Dir) → dir-of (number d) ≡ d
 dir-of-number = dirs (λ d. dir-of (number d) ≡ d) (refl, refl, refl, refl)
+
+pub number-of-dir : (d : ℕ) → d < 4 → number (dir-of d) ≡ d
+number-of-dir = four (λ d. number (dir-of d) ≡ d) (refl, refl, refl, refl)
+
+pub arrival-going : (a : ℕ) → a < 4 → arrival-of a ≡ going (dir-of a)
+arrival-going = four (λ a. arrival-of a ≡ going (dir-of a)) (refl, refl, refl, refl)
 
 -- a packet that travels so came from the neighbour behind it
 pub arrives-going : (m : Mesh) (n : Place) (a : ℕ) → a < 4 → exists m n (back (dir-of a)) ≡ arrives m n a

@@ -1,5 +1,5 @@
 -- A statement at every direction, turn and rule, and at every number below 4, from a tuple of its cases. Assumes nothing.
-use Prim.Native.Nat.{ℕ, zero, suc, _<_}
+use Prim.Native.Nat.{ℕ, zero, suc, _/_, _<_}
 use mathlib.Core.Path.{_≡_, refl}
 use native.Mathlib.Omega.{arith}
 use Rattle.route.specs.Grid.{horiz, vert, Sense, less, more, Dir, go, west, east, south, north}
@@ -21,6 +21,9 @@ dirs P h (go horiz less) = h .0
 dirs P h (go horiz more) = h .1
 dirs P h (go vert less) = h .2
 dirs P h (go vert more) = h .3
+
+pub pairs : (P : Dir → Dir → Type 0) → AllD (λ a. AllD (P a)) → (a e : Dir) → P a e
+pairs P h a e = dirs (P a) (dirs (λ a. AllD (P a)) h a) e
 
 abbrev pub AllT : (Turn → Type 0) → Type 0
 AllT P = P NE × P NW × P SE × P SW × P EN × P ES × P WN × P WS
@@ -57,6 +60,26 @@ four P h (suc (suc (suc (suc k)))) i = absurd (omega arith)
 
 pub four-four : (P : ℕ → ℕ → Type 0) → All4 (λ a. All4 (P a)) → (a d : ℕ) → a < 4 → d < 4 → P a d
 four-four P h a d i j = four (P a) (four (λ a. All4 (P a)) h a i) d j
+
+-- two directions along one axis, by their numbers; and along two
+pub one-axis : (P : ℕ → ℕ → Type 0) → (P 0 0 × P 0 1 × P 1 0 × P 1 1) × (P 2 2 × P 2 3 × P 3 2 × P 3 3) → (a d : ℕ) → a < 4 → d < 4 → a / 2 ≡ d / 2 → P a d
+one-axis P h =
+    four-four (λ a d. a / 2 ≡ d / 2 → P a d) (
+      (λ e. h .0 .0, λ e. h .0 .1, λ e. absurd (omega arith), λ e. absurd (omega arith)),
+      (λ e. h .0 .2, λ e. h .0 .3, λ e. absurd (omega arith), λ e. absurd (omega arith)),
+      (λ e. absurd (omega arith), λ e. absurd (omega arith), λ e. h .1 .0, λ e. h .1 .1),
+      (λ e. absurd (omega arith), λ e. absurd (omega arith), λ e. h .1 .2, λ e. h .1 .3),
+    )
+
+pub two-axes :
+    (P : ℕ → ℕ → Type 0) → (P 0 2 × P 0 3 × P 1 2 × P 1 3) × (P 2 0 × P 2 1 × P 3 0 × P 3 1) → (a d : ℕ) → a < 4 → d < 4 → (a / 2 ≡ d / 2 → ⊥) → P a d
+two-axes P h =
+    four-four (λ a d. (a / 2 ≡ d / 2 → ⊥) → P a d) (
+      (λ e. absurd (e refl), λ e. absurd (e refl), λ e. h .0 .0, λ e. h .0 .1),
+      (λ e. absurd (e refl), λ e. absurd (e refl), λ e. h .0 .2, λ e. h .0 .3),
+      (λ e. h .1 .0, λ e. h .1 .1, λ e. absurd (e refl), λ e. absurd (e refl)),
+      (λ e. h .1 .2, λ e. h .1 .3, λ e. absurd (e refl), λ e. absurd (e refl)),
+    )
 
 -- what holds whichever of the four a number is
 pub at-four : {P : Type 0} (k : ℕ) → k < 4 → (k ≡ 0 → P) → (k ≡ 1 → P) → (k ≡ 2 → P) → (k ≡ 3 → P) → P

@@ -4,11 +4,18 @@ mod Tests
 mod Axis
 mod Shortest
 mod Codes
+mod Least
+mod Unless
 mod Nodes
 mod Closed
 mod Exact
 mod Outputs
+mod House
+mod Rises
+mod Falls
 mod Returns
+mod Listed
+mod Accepts
 mod Marked
 mod Open
 pub mod Promises

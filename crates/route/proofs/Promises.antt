@@ -1,26 +1,41 @@
--- What may be relied on of the routing answer, each in terms of specs/ alone: read off the first hop of a shortest path, for every
--- turn table; and, for the five rules, that there is an answer to start with. Assumes nothing.
+-- What may be relied on, each in terms of specs/ alone. Of the routing answer: read off the first hop of a shortest path, for every turn
+-- table; and, for the five rules, that there is an answer to start with. Of numberings: what the check's answer says, for every turn
+-- table; and that the house numbers rise, are bounded and are accepted. Assumes nothing.
 use Prim.Native.Nat.{ℕ, suc, _<_}
-use mathlib.Core.Path.{_≡_}
-use mathlib.Core.Logic.{_⊎_, inl, inr, ⊎-elim, _↔_}
+use mathlib.Core.Path.{_≡_, refl, ap}
 use mathlib.Core.List.{List, [], _∷_}
+use mathlib.Core.Logic.{_⊎_, inl, inr, ⊎-elim, _↔_}
 use native.Mathlib.Omega.{arith}
+use lib.ListN.{getD}
 use lib.Dec.{T}
+use Rattle.route.specs.declared.checks.Checked.{Checked}
 use Rattle.route.specs.declared.places.Place.{Place}
-use Rattle.route.specs.Grid.{horiz, vert, Dir, coord, hop, dist}
-use Rattle.route.specs.Turns.{Arrival, local, going, Rule}
+use Rattle.route.specs.Grid.{horiz, vert, Dir, west, east, at, coord, hop, dist}
+use Rattle.route.specs.Turns.{Arrival, local, going, Rule, negative-first}
 use Rattle.route.specs.Mesh.{Mesh, Inside, exists, turn, ruled}
 use Rattle.route.specs.Paths.{same-place, Shortest, answer}
 use Rattle.route.specs.Route.{outputs}
+use Rattle.route.specs.Channels.{way, in-turn}
+use Rattle.route.specs.House.{house}
+use Rattle.route.specs.Check.{bends, first-pair}
 use Rattle.route.proofs.Shortest as hops
-use Rattle.route.proofs.Outputs.{empty-set}
 use Rattle.route.proofs.Exact.{in-answer}
+use Rattle.route.proofs.Outputs.{empty-set}
+use Rattle.route.proofs.Accepts.{rising, accepted}
 use Rattle.route.proofs.Open.{open-way}
+-- for every turn table: where the check names a pair, that pair falls and none before it does (First, first)
+pub use Rattle.route.proofs.Accepts.{First, first}
+-- for the five rules, all sizes and either parity of the first column: the house numbers rise from every channel to every one that may be
+-- used next, turns and straight runs alike (rises, by places; house-rises, by numbers of channels; list-rises, in the list); none reaches
+-- twice the product of the sides, each longer by one (bounded, house-bounded); and the check accepts what the numbering call wrote
+-- (house-accepted)
+pub use Rattle.route.proofs.Rises.{rises, bounded}
+pub use Rattle.route.proofs.Accepts.{house-rises, list-rises, house-bounded, house-accepted}
 -- for every turn table: a direction is in the answer exactly if some shortest legal path begins with it (by-paths); no legal path is
 -- shorter than the distance (none-shorter)
 pub use Rattle.route.proofs.Shortest.{by-paths, none-shorter}
 
--- ---- for every turn table
+-- ---- the routing answer, for every turn table
 module _ (m : Mesh) (n : Place) (a : Arrival) (t : Place) where
   -- the set is empty exactly if there is no shortest legal path
   pub no-path : (outputs m n a t ≡ 0) ↔ ((p : List Dir) → Shortest m n a t p → ⊥)
@@ -64,3 +79,15 @@ pub connected : (k : Rule) (C R f : ℕ) (n t : Place) → Inside (ruled k C R f
 connected k C R f n t inside away =
     let m = ruled k C R f in
     ⊎-elim (in-answer m n local t inside horiz) (in-answer m n local t inside vert) (open-way k C R f n t away)
+
+-- ---- the check of a list, for every turn table
+module _ (m : Mesh) (l : List ℕ) where
+  -- it accepts exactly if the numbers rise at every allowed turn by 90 degrees
+  pub accepts-rising : (first-pair m l .refusal ≡ 0) ↔ ((i o : ℕ) → T (in-turn m i o) → T (bends (way i) (way o)) → getD l i 0 < getD l o 0)
+  accepts-rising = (rising m l, λ h. ap (λ (r : Checked). r .refusal) (accepted m l h))
+
+-- ---- the house numbers, for the five rules
+-- in a mesh of 4 by 4 under negative-first, east from (1,2) is 9 and west is 3
+pub four-by-four : let m = ruled negative-first 4 4 0 in (house negative-first m (at 1 2) east ≡ 9) × (house negative-first m (at 1 2) west ≡ 3)
+unfolding house
+four-by-four = (refl, refl)

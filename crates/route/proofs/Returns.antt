@@ -1,45 +1,42 @@
 -- The routing call's returns: each by the tests that led to it, in their order. Assumes nothing.
 use Prim.Native.Nat.{ℕ, _*_}
-use mathlib.Core.Path.{_≡_, refl, _∙_}
+use mathlib.Core.Path.{_≡_, refl, sym, _∙_}
 use mathlib.Core.Bool.{Bool, true, false, _||_, not}
-use lib.Dec.{ltb, leb}
+use lib.Dec.{leb}
 use borrow.Author.Tests.{eq-eqb, ne-eqb}
 use Rattle.route.specs.declared.places.Place.{Place}
 use Rattle.route.specs.declared.routes.Routed.{Routed}
 use Rattle.route.specs.Mesh.{Mesh, ruled}
 use Rattle.route.specs.Numbers.{place-of, arrival-of, rule-of}
-use Rattle.route.specs.Route.{off-side, arrives, outputs, refuse, routed}
+use Rattle.route.specs.Served.{bad-mesh}
+use Rattle.route.specs.Route.{arrives, outputs, refuse, routed}
+use Rattle.route.proofs.Unless as unless
 
-module _ (C R rule n a t : ℕ) where
+module _ (C R rule n a t : ℕ) {k : ℕ} (hk : k ≡ bad-mesh C R rule) where
   abbrev m : Mesh
   m = ruled (rule-of rule) C R 0
 
-  pub refused-1 : {x y : Bool} {r : Routed} → x ≡ off-side C → y ≡ off-side R → x || y ≡ true → r ≡ refuse 1 → r ≡ routed C R rule n a t
+  pub refused-mesh : {r : Routed} → (k ≡ 0 → ⊥) → r ≡ refuse k → r ≡ routed C R rule n a t
   unfolding routed
-  refused-1 hx hy h e = e ∙ rw (rw (hx, hy) at h) refl
+  refused-mesh h e = e ∙ rw (sym hk) (sym (unless.given refuse _ k h))
 
-  module _ {x y : Bool} (hx : x ≡ off-side C) (hy : y ≡ off-side R) (sides : x || y ≡ false) where
-    pub refused-2 : {r : Routed} → ltb 4 rule ≡ true → r ≡ refuse 2 → r ≡ routed C R rule n a t
+  module _ (served : k ≡ 0) where
+    pub refused-3 : {r : Routed} → leb (C * R) n || leb (C * R) t ≡ true → r ≡ refuse 3 → r ≡ routed C R rule n a t
     unfolding routed
-    refused-2 h e = e ∙ rw (rw (hx, hy) at sides, h) refl
+    refused-3 h e = e ∙ rw (sym hk ∙ served, h) refl
 
-    module _ (rule-known : ltb 4 rule ≡ false) where
-      pub refused-3 : {r : Routed} → leb (C * R) n || leb (C * R) t ≡ true → r ≡ refuse 3 → r ≡ routed C R rule n a t
+    module _ (nodes : leb (C * R) n || leb (C * R) t ≡ false) {g : Mesh} {here : Place} (hg : g ≡ m) (hh : here ≡ place-of C n) {b : Bool} (hb : b ≡ arrives g here a) where
+      pub refused-4 : {r : Routed} → not b ≡ true → r ≡ refuse 4 → r ≡ routed C R rule n a t
       unfolding routed
-      refused-3 h e = e ∙ rw (rw (hx, hy) at sides, rule-known, h) refl
+      refused-4 h e = e ∙ rw (sym hk ∙ served, nodes, rw (hb, hg, hh) at h) refl
 
-      module _ (nodes : leb (C * R) n || leb (C * R) t ≡ false) {g : Mesh} {here : Place} (hg : g ≡ m) (hh : here ≡ place-of C n) {b : Bool} (hb : b ≡ arrives g here a) where
-        pub refused-4 : {r : Routed} → not b ≡ true → r ≡ refuse 4 → r ≡ routed C R rule n a t
+      module _ {there : Place} {s : ℕ} (ht : there ≡ place-of C t) (arrived : not b ≡ false) (hs : s ≡ outputs g here (arrival-of a) there) where
+        pub refused-11 : {r : Routed} → s ≡ 0 → r ≡ refuse 11 → r ≡ routed C R rule n a t
         unfolding routed
-        refused-4 h e = e ∙ rw (rw (hx, hy) at sides, rule-known, nodes, rw (hb, hg, hh) at h) refl
+        refused-11 h e =
+            e ∙ rw (sym hk ∙ served, nodes, rw (hb, hg, hh) at arrived, eq-eqb _ 0 (rw (hs, hg, hh, ht) at h)) refl
 
-        module _ {there : Place} {s : ℕ} (ht : there ≡ place-of C t) (arrived : not b ≡ false) (hs : s ≡ outputs g here (arrival-of a) there) where
-          pub refused-11 : {r : Routed} → s ≡ 0 → r ≡ refuse 11 → r ≡ routed C R rule n a t
-          unfolding routed
-          refused-11 h e =
-              e ∙ rw (rw (hx, hy) at sides, rule-known, nodes, rw (hb, hg, hh) at arrived, eq-eqb _ 0 (rw (hs, hg, hh, ht) at h)) refl
-
-          pub given : (s ≡ 0 → ⊥) → record { refusal = 0; outputs = s } ≡ routed C R rule n a t
-          unfolding routed
-          given h =
-              rw (rw (hx, hy) at sides, rule-known, nodes, rw (hb, hg, hh) at arrived, ne-eqb _ 0 (rw (hs, hg, hh, ht) at h), hs, hg, hh, ht) refl
+        pub given : (s ≡ 0 → ⊥) → record { refusal = 0; outputs = s } ≡ routed C R rule n a t
+        unfolding routed
+        given h =
+            rw (sym hk ∙ served, nodes, rw (hb, hg, hh) at arrived, ne-eqb _ 0 (rw (hs, hg, hh, ht) at h), hs, hg, hh, ht) refl

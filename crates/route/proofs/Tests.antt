@@ -35,6 +35,9 @@ pub neither : {a b : Bool} → a || b ≡ false → (a ≡ false) × (b ≡ fals
 neither {a = false} h = (refl, h)
 neither {a = true} h = absurd (subst T h tt)
 
+pub passes : (b : Bool) → T b → b ≡ true
+passes true t = refl
+
 pub fails : (b : Bool) → (T b → ⊥) → b ≡ false
 fails true f = absurd (f tt)
 fails false f = refl

@@ -1,13 +1,14 @@
 -- The routing call: its refusals in their order, and the set of outputs. Assumes nothing.
 use Prim.Native.Nat.{ℕ, _+_, _*_}
 use mathlib.Core.Bool.{Bool, true, _&&_, _||_, not}
-use lib.Dec.{ltb, leb, eqb}
+use lib.Dec.{leb, eqb}
 use Rattle.route.specs.declared.places.Place.{Place}
 use Rattle.route.specs.declared.routes.Routed.{Routed}
 use Rattle.route.specs.Grid.{pick, Dir, west, east, south, north, back}
 use Rattle.route.specs.Turns.{Arrival, local, going}
 use Rattle.route.specs.Mesh.{Mesh, exists, ruled}
 use Rattle.route.specs.Numbers.{place-of, arrival-of, rule-of}
+use Rattle.route.specs.Served.{unless, bad-mesh}
 use Rattle.route.specs.Paths.{same-place, answer}
 
 -- the values of the directions in a set, added
@@ -17,10 +18,6 @@ values member = pick (member west) 1 0 + pick (member east) 2 0 + pick (member s
 -- the set of outputs: the answer's, or 16, deliver, at the destination
 unfoldable pub outputs : Mesh → Place → Arrival → Place → ℕ
 outputs m n a t = pick (same-place n t) 16 (values (answer m n a t))
-
--- a side is not 2 to 16 long
-abbrev pub off-side : ℕ → Bool
-off-side length = ltb length 2 || ltb 16 length
 
 -- a packet that is at n starts there, or came over a channel from the neighbour behind it
 abbrev pub from-mesh : Mesh → Place → Arrival → Bool
@@ -41,9 +38,8 @@ routed C R rule n arrival t =
     let m = ruled (rule-of rule) C R 0 in
     let here = place-of C n in
     let set = outputs m here (arrival-of arrival) (place-of C t) in
-    pick (off-side C || off-side R) (refuse 1)
-    (pick (ltb 4 rule) (refuse 2)
+    unless refuse (bad-mesh C R rule)
     (pick (leb (C * R) n || leb (C * R) t) (refuse 3)
     (pick (not (arrives m here arrival)) (refuse 4)
     (pick (eqb set 0) (refuse 11)
-    (record { refusal = 0; outputs = set })))))
+    (record { refusal = 0; outputs = set }))))

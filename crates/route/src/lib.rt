@@ -4,17 +4,27 @@
 // gives the first hops of the shortest paths that the published turn rule allows, and no others.
 // It searches nothing: whatever the mesh, an answer is a handful of turns looked up in a table.
 mod answers;
+mod channels;
+mod checks;
+mod formulas;
 mod meshes;
+mod numberings;
 mod places;
 mod refusals;
 mod routes;
 
 pub use answers::outputs_at;
+pub use channels::Channel;
+pub use channels::channel_of;
+pub use checks::Checked;
+pub use checks::mesh_check;
 pub use meshes::Mesh;
 pub use meshes::mesh_of;
+pub use numberings::mesh_number;
 pub use places::Column;
 pub use places::Place;
 pub use places::Row;
+pub use places::node_of;
 pub use places::place_of;
 pub use routes::Routed;
 pub use routes::mesh_route;

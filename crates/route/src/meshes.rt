@@ -2,15 +2,17 @@
 // which turns it allows.
 use crate::places::Column;
 use crate::places::Place;
+use crate::places::at;
 ghost use mathlib.Core.Path.{_≡_};
+ghost use mathlib.Core.Bool.{true};
 ghost use Prim.Native.Nat.{_/_, _%_, _^_, _<_};
 ghost use lib.Dec.{eqb};
-ghost use Rattle.route.specs.Grid.{back};
+ghost use Rattle.route.specs.Grid.{hop, back};
 ghost use Rattle.route.specs.Turns.{bit};
 ghost use Rattle.route.specs.Coded.{turned, meant};
 ghost use Rattle.route.specs.Mesh.{Inside, exists, turn, ruled};
 ghost use Rattle.route.specs.Numbers.{number, dir-of, arrival-of, rule-of};
-ghost use Rattle.route.specs.Route.{off-side, arrives};
+ghost use Rattle.route.specs.Route.{arrives};
 
 // The arrival of a packet that starts at a node.
 pub const LOCAL: u8 = 4;
@@ -25,13 +27,6 @@ pub struct Mesh {
 
 // The tables of the five rules: xy, west-first, north-last, negative-first, odd-even.
 const TABLES: [u16; 5] = [0xf0f0, 0xf5f5, 0xfcfc, 0xdddd, 0xf5cf];
-
-// Is a side too short or too long?
-pub fn off_side(length: u8) -> bool
-    ensures { λ r. ⌜ r ≡ off-side length ⌝ }
-{
-    (length < 2) | (16 < length)
-}
 
 // The mesh of these sides under a published rule.
 pub fn mesh_of(columns: u8, rows: u8, rule: u8) -> Mesh
@@ -85,6 +80,23 @@ impl Mesh {
             1 => here.column.0 + 1 < self.columns,
             2 => 0 < here.row.0,
             _ => here.row.0 + 1 < self.rows,
+        }
+    }
+
+    // The neighbour of a place in a direction in which a channel leads.
+    pub fn hop(self, here: Place, direction: u8) -> Place
+        requires { ⌜ direction < 4 ⌝ }
+        requires { ⌜ Inside (meant self) here ⌝ }
+        requires { ⌜ exists (meant self) here (dir-of direction) ≡ true ⌝ }
+        ensures { λ r. ⌜ r ≡ hop (dir-of direction) here ⌝ }
+    {
+        let column = here.column.0;
+        let row = here.row.0;
+        match direction {
+            0 => at(column - 1, row),
+            1 => at(column + 1, row),
+            2 => at(column, row - 1),
+            _ => at(column, row + 1),
         }
     }
 

@@ -2,8 +2,8 @@
 ghost use mathlib.Core.Path.{_≡_};
 ghost use Prim.Native.Nat.{_+_, _*_, _<_};
 ghost use lib.Dec.{ltb};
-ghost use Rattle.route.specs.Grid.{pick, gap};
-ghost use Rattle.route.specs.Numbers.{place-of};
+ghost use Rattle.route.specs.Grid.{pick, at, gap};
+ghost use Rattle.route.specs.Numbers.{node, place-of};
 ghost use Rattle.route.specs.Paths.{same-place};
 
 pub struct Column(pub u8);
@@ -15,6 +15,23 @@ pub struct Place {
     pub row: Row,
 }
 
+// The place in a column and a row.
+pub fn at(column: u8, row: u8) -> Place
+    ensures { λ r. ⌜ r ≡ at column row ⌝ }
+{
+    Place {
+        column: Column(column),
+        row: Row(row),
+    }
+}
+
+// The number of the node at a place, in a mesh of so many columns.
+pub fn node_of(columns: u8, here: Place) -> u16
+    ensures { λ r. ⌜ r ≡ node columns here ⌝ }
+{
+    (here.row.0 as u16) * (columns as u16) + (here.column.0 as u16)
+}
+
 // The place of a node, by its number in a mesh of so many columns.
 pub fn place_of(columns: u8, node: u16) -> Place
     requires { ⌜ 0 < columns ⌝ }
@@ -24,10 +41,7 @@ pub fn place_of(columns: u8, node: u16) -> Place
     let wide = columns as u16;
     let column = (node % wide) as u8;
     let row = (node / wide) as u8;
-    Place {
-        column: Column(column),
-        row: Row(row),
-    }
+    at(column, row)
 }
 
 // The difference of two coordinates of one dimension.

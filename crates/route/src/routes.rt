@@ -1,13 +1,11 @@
 // The routing call: refusals in their order, then the outputs.
 use crate::answers::outputs_at;
 use crate::meshes::mesh_of;
-use crate::meshes::off_side;
 use crate::places::place_of;
 use crate::refusals::BAD_ARRIVAL;
 use crate::refusals::BAD_NODE;
-use crate::refusals::BAD_RULE;
-use crate::refusals::BAD_SIDE;
 use crate::refusals::NO_PATH;
+use crate::refusals::bad_mesh;
 ghost use mathlib.Core.Path.{_≡_};
 ghost use Rattle.route.specs.Route.{refuse, routed};
 
@@ -40,13 +38,9 @@ pub extern "C" fn mesh_route(
 ) -> Routed
     ensures { λ r. ⌜ r ≡ routed columns rows rule node arrival destination ⌝ }
 {
-    let bad_side = off_side(columns) | off_side(rows);
-    let bad_rule = 4 < rule;
-    if bad_side {
-        return refused(BAD_SIDE);
-    }
-    if bad_rule {
-        return refused(BAD_RULE);
+    let refusal = bad_mesh(columns, rows, rule);
+    if refusal != 0 {
+        return refused(refusal);
     }
     let nodes = (columns as u16) * (rows as u16);
     if (nodes <= node) | (nodes <= destination) {

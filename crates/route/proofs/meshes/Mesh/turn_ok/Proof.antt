@@ -8,7 +8,7 @@ use Rattle.route.specs.Turns.{parity}
 use Rattle.route.specs.Mesh.{turn}
 use Rattle.route.specs.Numbers.{dir-of}
 use Rattle.route.specs.Coded.{turned, bits}
-use Rattle.route.proofs.Codes.{one-axis, two-axes, bit-of}
+use Rattle.route.proofs.Codes.{straight-or-back, by-turn, bit-of}
 use Rattle.route.proofs.meshes.Mesh.turn_ok.Statement.{statement}
 use Rattle.route.proofs.meshes.Mesh.turn_ok.Tie as tie
 
@@ -18,7 +18,7 @@ returns c = let e : c .before .args .arrival ≡ 4 = omega arith in rw e refl
 
 returns-2 : tie.Need-returns-2
 unfolding turn
-returns-2 c = one-axis _ (c .before .before .args .arrival) (c .before .before .args .direction) (omega arith) (omega arith) (omega arith)
+returns-2 c = straight-or-back _ (c .before .before .args .arrival) (c .before .before .args .direction) (omega arith) (omega arith) (omega arith)
 
 mul-bit-at : tie.Need-mul-bit-at
 mul-bit-at c = search needs
@@ -39,7 +39,7 @@ returns-3 c =
     let t = turned (dir-of (x .arrival)) (dir-of (x .direction)) in
     c .bit-at .ensures
     ∙ rw (c .before .turn-bit .ensures .1, add-zero) (bit-of (x .self .table) (x .column .0 % 2) t (omega arith)
-    ∙ two-axes (bits (x .self .table) (parity (x .column .0))) (x .arrival) (x .direction) (omega arith) (omega arith) (omega arith))
+    ∙ by-turn (bits (x .self .table) (parity (x .column .0))) (x .arrival) (x .direction) (omega arith) (omega arith) (omega arith))
 
 pub turn-ok-spec : {M : Type 1} → statement M
 turn-ok-spec =

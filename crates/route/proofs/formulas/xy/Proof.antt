@@ -1,0 +1,31 @@
+-- Each return by the direction that led there. Assumes nothing.
+use mathlib.Core.Path.{_≡_}
+use native.Mathlib.Omega.{arith}
+use borrow.Author.Needs.{needs}
+use Rattle.route.proofs.formulas.xy.Statement.{statement}
+use Rattle.route.proofs.formulas.xy.Tie as tie
+
+add-result : tie.Need-add-result
+add-result c = search needs
+
+add-result-2 : tie.Need-add-result-2
+add-result-2 c = search needs
+
+returns : tie.Need-returns
+returns c = search needs
+
+returns-2 : tie.Need-returns-2
+returns-2 c = search needs
+
+returns-3 : tie.Need-returns-3
+returns-3 c =
+    let e : c .before .before .args .direction ≡ 2 = omega arith in
+    rw e (omega arith)
+
+returns-4 : tie.Need-returns-4
+returns-4 c =
+    let e : c .before .before .args .direction ≡ 3 = omega arith in
+    rw e (omega arith)
+
+pub xy-spec : {M : Type 1} → statement M
+xy-spec = tie.close (tie.spec add-result add-result-2 returns returns-2 returns-3 returns-4)
