@@ -23,6 +23,9 @@ use Rattle.route.proofs.Exact.{in-answer}
 use Rattle.route.proofs.Outputs.{empty-set}
 use Rattle.route.proofs.Accepts.{rising, accepted}
 use Rattle.route.proofs.Open.{open-way}
+-- for every turn table: a direction is in the answer exactly if some shortest legal path begins with it (by-paths); no legal path is
+-- shorter than the distance (none-shorter)
+pub use Rattle.route.proofs.Shortest.{by-paths, none-shorter}
 -- for every turn table: where the check names a pair, that pair falls and none before it does (First, first)
 pub use Rattle.route.proofs.Accepts.{First, first}
 -- for the five rules, all sizes and either parity of the first column: the house numbers rise from every channel to every one that may be
@@ -31,9 +34,6 @@ pub use Rattle.route.proofs.Accepts.{First, first}
 -- (house-accepted)
 pub use Rattle.route.proofs.Rises.{rises, bounded}
 pub use Rattle.route.proofs.Accepts.{house-rises, list-rises, house-bounded, house-accepted}
--- for every turn table: a direction is in the answer exactly if some shortest legal path begins with it (by-paths); no legal path is
--- shorter than the distance (none-shorter)
-pub use Rattle.route.proofs.Shortest.{by-paths, none-shorter}
 
 -- ---- the routing answer, for every turn table
 module _ (m : Mesh) (n : Place) (a : Arrival) (t : Place) where

@@ -1,8 +1,11 @@
-// Turn rules and the routing answer of a two-dimensional mesh.
+// Turn rules, the routing answer and the numbering of channels in a two-dimensional mesh.
 //
 // At a node, for a packet that arrived travelling one way and goes to a destination, `mesh_route`
 // gives the first hops of the shortest paths that the published turn rule allows, and no others.
 // It searches nothing: whatever the mesh, an answer is a handful of turns looked up in a table.
+//
+// `mesh_number` numbers the channels so that numbers rise along everything that a rule allows;
+// `mesh_check` looks whether somebody else's numbers rise, and where they first do not.
 mod answers;
 mod channels;
 mod checks;
