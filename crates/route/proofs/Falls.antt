@@ -21,7 +21,7 @@ use Rattle.route.specs.Paths.{same-place}
 use Rattle.route.specs.Channels.{channel, start, way, far, channels, is-channel, in-turn}
 use Rattle.route.specs.Check.{bends, falls, first-after, first-from, no-pair, first-pair}
 use Rattle.route.specs.Coded.{Ends}
-use Rattle.route.proofs.Tests.{fails}
+use Rattle.route.proofs.Tests.{fails, no-if-not, yes-if-not, no-if, yes-if}
 use Rattle.route.proofs.Codes.{bends-not, bends-so, number-of-dir, arrival-going}
 use Rattle.route.proofs.Least.{the-least}
 use Rattle.route.proofs.Nodes.{hop-inside, start-inside, start-node, channel-start, channel-way, channel-below, channel-is, joined, a-channel}
@@ -82,17 +82,19 @@ module _ (m : Mesh) (l : List ℕ) (i : ℕ) where
       level h = rw (by-tests, bends-not (i % 4) d (omega arith) low h, and-false) refl
 
       -- no such channel
-      pub no-way : exists m s (dir-of d) ≡ false → false ≡ falls m l i o
-      no-way h = rw (by-tests, h) refl
+      pub no-way : {x : Bool} → x ≡ exists m s (dir-of d) → not x ≡ true → false ≡ falls m l i o
+      no-way hx h = rw (by-tests, no-if-not hx h) refl
 
       -- the turn is not allowed
-      pub barred : turn m (coord horiz s) (arrival-of (i % 4)) (dir-of d) ≡ false → false ≡ falls m l i o
-      barred h = rw (by-tests, rw (arrival-going (i % 4) (omega arith)) at h, and-false) refl
+      pub barred : {y : Bool} → y ≡ turn m (coord horiz s) (arrival-of (i % 4)) (dir-of d) → not y ≡ true → false ≡ falls m l i o
+      barred hy h = rw (by-tests, rw (arrival-going (i % 4) (omega arith)) at (no-if-not hy h), and-false) refl
 
       -- an allowed turn by 90 degrees: the numbers decide
-      pub compared : {r : Bool} → (i % 4 / 2 ≡ d / 2 → ⊥) → exists m s (dir-of d) ≡ true → turn m (coord horiz s) (arrival-of (i % 4)) (dir-of d) ≡ true
-          → r ≡ leb (getD l o 0) (getD l i 0) → r ≡ falls m l i o
-      compared f x t h = h ∙ sym (rw (by-tests, bends-so (i % 4) d (omega arith) low f, x, rw (arrival-going (i % 4) (omega arith)) at t) refl)
+      pub compared : {x y r : Bool} → (i % 4 / 2 ≡ d / 2 → ⊥) → x ≡ exists m s (dir-of d) → not x ≡ false
+          → y ≡ turn m (coord horiz s) (arrival-of (i % 4)) (dir-of d) → not y ≡ false → r ≡ leb (getD l o 0) (getD l i 0) → r ≡ falls m l i o
+      compared f hx h hy k hr =
+          hr
+          ∙ sym (rw (by-tests, bends-so (i % 4) d (omega arith) low f, yes-if-not hx h, rw (arrival-going (i % 4) (omega arith)) at (yes-if-not hy k)) refl)
 
     -- ---- the first that falls: w of the four directions have been looked at
     abbrev Passed : ℕ → Type 0
@@ -105,17 +107,17 @@ module _ (m : Mesh) (l : List ℕ) (i : ℕ) where
       next : channel C s (dir-of w) ≡ 4 * node C s + w
       next = omega (arith, number-of-dir w low)
 
-      pub pass : falls m l i (channel C s (dir-of w)) ≡ false → Passed (w + 1)
-      pass h o j =
+      pub pass : {b : Bool} → b ≡ falls m l i (channel C s (dir-of w)) → b ≡ false → Passed (w + 1)
+      pass hb h o j =
           let k : o ≤ 4 * node C s + w = omega arith in
-          ⊎-elim (λ e. subst (λ x. falls m l i x ≡ false) (next ∙ sym e) h) (passed o) (eq-or-lt-of-le k)
+          ⊎-elim (λ e. subst (λ x. falls m l i x ≡ false) (next ∙ sym e) (no-if hb h)) (passed o) (eq-or-lt-of-le k)
 
-      pub found : falls m l i (channel C s (dir-of w)) ≡ true → channel C s (dir-of w) ≡ first-after m l i
-      found h =
+      pub found : {b : Bool} → b ≡ falls m l i (channel C s (dir-of w)) → b ≡ true → channel C s (dir-of w) ≡ first-after m l i
+      found hb h =
           sym (the-least (falls m l i) (channels m) (channel C s (dir-of w)) (record {
             high = omega (arith, channel-below m s (dir-of w) (inside m i e));
             before = λ o j. passed o (omega (arith, next));
-            passes = λ j. h;
+            passes = λ j. yes-if hb h;
           }))
 
     pub all-passed : (w : ℕ) → 4 ≤ w → Passed w → (o : ℕ) → falls m l i o ≡ false

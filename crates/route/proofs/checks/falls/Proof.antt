@@ -4,7 +4,6 @@ use native.Mathlib.Omega.{arith}
 use borrow.Author.Needs.{needs}
 use Rattle.route.specs.Numbers.{dir-of}
 use Rattle.route.specs.Coded.{meant, Ends}
-use Rattle.route.proofs.Tests.{no-if-not, yes-if-not}
 use Rattle.route.proofs.Nodes.{node-below, channel-below, words-fit}
 use Rattle.route.proofs.Falls.{below, inside, level, no-way, barred, compared}
 use Rattle.route.proofs.checks.falls.Statement.{statement}
@@ -29,7 +28,7 @@ returns-2 : tie.Need-returns-2
 returns-2 c =
     let x = c .before .before .before .before .before .args in
     let e : Ends (meant (x .m)) (x .incoming) (x .out .start) = search needs in
-    no-way (meant (x .m)) (x .list .now) (x .incoming) e (x .out .way) (omega arith) (no-if-not (c .before .exists .ensures) (c .if2 .taken))
+    no-way (meant (x .m)) (x .list .now) (x .incoming) e (x .out .way) (omega arith) (c .before .exists .ensures) (c .if2 .taken)
 
 turn-ok-requires : tie.Need-turn-ok-requires
 turn-ok-requires c κs = search needs
@@ -38,7 +37,7 @@ returns-3 : tie.Need-returns-3
 returns-3 c =
     let x = c .before .before .before .before .before .before .before .args in
     let e : Ends (meant (x .m)) (x .incoming) (x .out .start) = search needs in
-    barred (meant (x .m)) (x .list .now) (x .incoming) e (x .out .way) (omega arith) (no-if-not (c .before .turn-ok .ensures) (c .if3 .taken))
+    barred (meant (x .m)) (x .list .now) (x .incoming) e (x .out .way) (omega arith) (c .before .turn-ok .ensures) (c .if3 .taken)
 
 number-requires : tie.Need-number-requires
 number-requires c κs =
@@ -74,7 +73,7 @@ returns-4 : tie.Need-returns-4
 returns-4 c =
     let x = c .before .before .before .before .before .before .before .before .before .before .args in
     let e : Ends (meant (x .m)) (x .incoming) (x .out .start) = search needs in
-    compared (meant (x .m)) (x .list .now) (x .incoming) e (x .out .way) (omega arith) (omega arith) (yes-if-not (c .before .before .before .before .before .before .exists .ensures) (c .before .before .before .before .before .if2 .left)) (yes-if-not (c .before .before .before .before .turn-ok .ensures) (c .before .before .before .if3 .left)) (rw (c .before .before .number .ensures) refl)
+    compared (meant (x .m)) (x .list .now) (x .incoming) e (x .out .way) (omega arith) (omega arith) (c .before .before .before .before .before .before .exists .ensures) (c .before .before .before .before .before .if2 .left) (c .before .before .before .before .turn-ok .ensures) (c .before .before .before .if3 .left) (rw (c .before .before .number .ensures) refl)
 
 pub falls-spec : {M : Type 1} → statement M
 falls-spec =

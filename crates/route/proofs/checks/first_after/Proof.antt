@@ -7,7 +7,7 @@ use borrow.Author.Needs.{needs}
 use Rattle.route.specs.Numbers.{node}
 use Rattle.route.specs.Check.{falls}
 use Rattle.route.specs.Coded.{meant, Ends}
-use Rattle.route.proofs.Tests.{yes-if-not, no-if, yes-if}
+use Rattle.route.proofs.Tests.{yes-if-not}
 use Rattle.route.proofs.Nodes.{node-below, number-high, start-inside, words-fit, not-channel}
 use Rattle.route.proofs.Falls.{ending, inside, no-channel, none-passed, pass, found, all-passed, none-falls}
 use Rattle.route.proofs.checks.first_after.Statement.{statement}
@@ -66,7 +66,7 @@ returns-2 : tie.Need-returns-2 Inv-loop μ-loop
 returns-2 c =
     let x = c .before .before .before .before .before .before .before .before .before .before .args in
     let e : Ends (meant (x .m)) (x .incoming) (c .before .before .before .before .before .hop .result) = search ending in
-    c .number .ensures ∙ found (meant (x .m)) (x .list .now) (x .incoming) e (c .before .before .before .before .loop .way) (omega arith) (c .before .before .before .before .loop .inv .1) (yes-if (c .before .before .falls .ensures) (c .before .if2 .taken))
+    c .number .ensures ∙ found (meant (x .m)) (x .list .now) (x .incoming) e (c .before .before .before .before .loop .way) (omega arith) (c .before .before .before .before .loop .inv .1) (c .before .before .falls .ensures) (c .before .if2 .taken)
 
 add-way : tie.Need-add-way Inv-loop μ-loop
 add-way c = search needs
@@ -78,7 +78,7 @@ loop-again : tie.Need-loop-again Inv-loop μ-loop
 loop-again c =
     let x = c .before .before .before .before .before .before .before .before .before .args in
     let e : Ends (meant (x .m)) (x .incoming) (c .before .before .before .before .hop .result) = search ending in
-    (omega arith, pass (meant (x .m)) (x .list .now) (x .incoming) e (c .before .before .before .loop .way) (omega arith) (c .before .before .before .loop .inv .1) (no-if (c .before .falls .ensures) (c .if2 .left)))
+    (omega arith, pass (meant (x .m)) (x .list .now) (x .incoming) e (c .before .before .before .loop .way) (omega arith) (c .before .before .before .loop .inv .1) (c .before .falls .ensures) (c .if2 .left))
 
 returns-3 : tie.Need-returns-3 Inv-loop μ-loop
 returns-3 c =
