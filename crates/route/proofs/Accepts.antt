@@ -15,9 +15,9 @@ use borrow.Author.Tests.{ltb-true, ltb-false, le-ltb, leb-false}
 use Rattle.route.specs.Grid.{pick, horiz, coord}
 use Rattle.route.specs.Turns.{going, Rule}
 use Rattle.route.specs.Mesh.{Mesh, turn, ruled}
-use Rattle.route.specs.Numbers.{rule-of}
+use Rattle.route.specs.Numbers.{rule-of, channels}
 use Rattle.route.specs.Served.{unless, bad-list}
-use Rattle.route.specs.Channels.{start, way, channels, is-channel, in-turn}
+use Rattle.route.specs.Channels.{start, way, is-channel, in-turn}
 use Rattle.route.specs.House.{house, house-of, upto, numbering, Numbered, numbered}
 use Rattle.route.specs.Check.{bends, falls, first-after, first-from, no-pair, first-pair, checked}
 use Rattle.route.proofs.Tests.{passes, fails}
@@ -30,7 +30,7 @@ use Rattle.route.proofs.Falls.{no-channel, none-falls, accepts}
 
 module _ (m : Mesh) (l : List ℕ) where
   -- no number beyond those of the channels is in a pair that falls
-  off-list : (o : ℕ) → ltb o (channels m) ≡ false → is-channel m o ≡ false
+  off-list : (o : ℕ) → ltb o (channels (m .columns) (m .rows)) ≡ false → is-channel m o ≡ false
   unfolding is-channel
   off-list o h = rw h refl
 
@@ -39,13 +39,13 @@ module _ (m : Mesh) (l : List ℕ) where
   beyond i o h = rw (h, and-false) refl
 
   -- from a channel that the search has passed over, none falls
-  none-after : (i : ℕ) → ltb (first-after m l i) (channels m) ≡ false → (o : ℕ) → falls m l i o ≡ false
-  none-after i h o = by (ltb o (channels m)) refl
+  none-after : (i : ℕ) → ltb (first-after m l i) (channels (m .columns) (m .rows)) ≡ false → (o : ℕ) → falls m l i o ≡ false
+  none-after i h o = by (ltb o (channels (m .columns) (m .rows))) refl
     where
-      by : (b : Bool) → ltb o (channels m) ≡ b → falls m l i o ≡ false
+      by : (b : Bool) → ltb o (channels (m .columns) (m .rows)) ≡ b → falls m l i o ≡ false
       by true e =
-          let a : o < channels m = ltb-true o (channels m) e in
-          is-least (falls m l i) (channels m) .before o (omega (arith, ltb-false (first-after m l i) (channels m) h))
+          let a : o < channels (m .columns) (m .rows) = ltb-true o (channels (m .columns) (m .rows)) e in
+          is-least (falls m l i) (channels (m .columns) (m .rows)) .before o (omega (arith, ltb-false (first-after m l i) (channels (m .columns) (m .rows)) h))
       by false e = beyond i o (off-list o e)
 
   -- ---- 14: the pair falls, and none before it does
@@ -58,14 +58,14 @@ module _ (m : Mesh) (l : List ℕ) where
 
   pub first : first-pair m l .refusal ≡ 14 → First (first-pair m l .incoming) (first-pair m l .outgoing)
   unfolding first-pair
-  first = at (first-from m l) (is-least _ (channels m)) (ltb (first-from m l) (channels m)) refl
+  first = at (first-from m l) (is-least _ (channels (m .columns) (m .rows))) (ltb (first-from m l) (channels (m .columns) (m .rows))) refl
     where
-      at : (j : ℕ) → Least (λ i. ltb (first-after m l i) (channels m)) (channels m) j → (b : Bool) → ltb j (channels m) ≡ b
+      at : (j : ℕ) → Least (λ i. ltb (first-after m l i) (channels (m .columns) (m .rows))) (channels (m .columns) (m .rows)) j → (b : Bool) → ltb j (channels (m .columns) (m .rows)) ≡ b
           → let r = pick b (record { refusal = 14; incoming = j; outgoing = first-after m l j }) (no-pair 0) in r .refusal ≡ 14 → First (r .incoming) (r .outgoing)
       at j h false e z = absurd (omega arith)
       at j h true e z =
-          let k : first-after m l j < channels m = ltb-true (first-after m l j) (channels m) (h .passes (ltb-true j (channels m) e)) in
-          let g = is-least (falls m l j) (channels m) in
+          let k : first-after m l j < channels (m .columns) (m .rows) = ltb-true (first-after m l j) (channels (m .columns) (m .rows)) (h .passes (ltb-true j (channels (m .columns) (m .rows)) e)) in
+          let g = is-least (falls m l j) (channels (m .columns) (m .rows)) in
           record {
             falling = g .passes k;
             rest = λ i o. ⊎-elim (λ a. none-after i (h .before i a) o) (λ a. subst (λ x. falls m l x o ≡ false) (sym (a .0)) (g .before o (a .1)));
@@ -85,7 +85,7 @@ module _ (m : Mesh) (l : List ℕ) where
 
   pub accepted : Rising → first-pair m l ≡ no-pair 0
   accepted h =
-      sym (accepts m l (channels m) (λ i a. le-ltb (first-after m l i) (channels m) (omega (arith, none-falls m l i refl (none-falling h i)))) (omega arith))
+      sym (accepts m l (channels (m .columns) (m .rows)) (λ i a. le-ltb (first-after m l i) (channels (m .columns) (m .rows)) (omega (arith, none-falls m l i refl (none-falling h i)))) (omega arith))
 
   rise-if : ((i o : ℕ) → falls m l i o ≡ false) → Rising
   unfolding falls
@@ -93,15 +93,15 @@ module _ (m : Mesh) (l : List ℕ) where
 
   pub rising : first-pair m l .refusal ≡ 0 → Rising
   unfolding first-pair
-  rising = at (first-from m l) (is-least _ (channels m)) (ltb (first-from m l) (channels m)) refl
+  rising = at (first-from m l) (is-least _ (channels (m .columns) (m .rows))) (ltb (first-from m l) (channels (m .columns) (m .rows))) refl
     where
-      at : (j : ℕ) → Least (λ i. ltb (first-after m l i) (channels m)) (channels m) j → (b : Bool) → ltb j (channels m) ≡ b
+      at : (j : ℕ) → Least (λ i. ltb (first-after m l i) (channels (m .columns) (m .rows))) (channels (m .columns) (m .rows)) j → (b : Bool) → ltb j (channels (m .columns) (m .rows)) ≡ b
           → pick b (record { refusal = 14; incoming = j; outgoing = first-after m l j }) (no-pair 0) .refusal ≡ 0 → Rising
       at j h true e z = absurd (omega arith)
-      at j h false e z = rise-if (λ i. by i (ltb i (channels m)) refl)
+      at j h false e z = rise-if (λ i. by i (ltb i (channels (m .columns) (m .rows))) refl)
         where
-          by : (i : ℕ) (b : Bool) → ltb i (channels m) ≡ b → (o : ℕ) → falls m l i o ≡ false
-          by i true a = none-after i (h .before i (omega (arith, ltb-true i (channels m) a, ltb-false j (channels m) e)))
+          by : (i : ℕ) (b : Bool) → ltb i (channels (m .columns) (m .rows)) ≡ b → (o : ℕ) → falls m l i o ≡ false
+          by i true a = none-after i (h .before i (omega (arith, ltb-true i (channels (m .columns) (m .rows)) a, ltb-false j (channels (m .columns) (m .rows)) e)))
           by i false a = no-channel m l i (off-list i a)
 
 -- ---- the house numbering
@@ -136,8 +136,8 @@ pub list-rises : (k : Rule) (C R f : ℕ) → let m = ruled k C R f in (i o : �
 list-rises k C R f i o t =
     let m = ruled k C R f in
     let j = joined m i o t in
-    let a = getD-upto (house-of k m) (channels m) i (channel-is m i (j .from) .0) in
-    let b = getD-upto (house-of k m) (channels m) o (channel-is m o (j .to) .0) in
+    let a = getD-upto (house-of k m) (channels (m .columns) (m .rows)) i (channel-is m i (j .from) .0) in
+    let b = getD-upto (house-of k m) (channels (m .columns) (m .rows)) o (channel-is m o (j .to) .0) in
     omega (arith, house-rises k C R f i o t)
 
 -- what the numbering call wrote, the check accepts
@@ -156,5 +156,5 @@ house-accepted C R rule l = at (bad-list C R rule (length l)) refl
         n .refusal ≡ 0 → unless no-pair (bad-list C R rule (length (n .list))) (first-pair m (n .list)) ≡ no-pair 0
     at (suc k) e z = absurd (omega arith)
     at zero e z =
-        let a : length house-list ≡ length l = length-upto (house-of (rule-of rule) m) (channels m) ∙ sym (list-served C R rule (length l) (sym e) refl .1) in
+        let a : length house-list ≡ length l = length-upto (house-of (rule-of rule) m) (channels (m .columns) (m .rows)) ∙ sym (list-served C R rule (length l) (sym e) refl .1) in
         rw (a, e) (accepted m house-list (λ i o t b. list-rises (rule-of rule) C R 0 i o t))

@@ -16,27 +16,27 @@ use Rattle.route.specs.declared.places.Place.{Place}
 use Rattle.route.specs.Grid.{horiz, vert, Dir, coord, hop}
 use Rattle.route.specs.Turns.{going}
 use Rattle.route.specs.Mesh.{Mesh, Inside, exists, turn}
-use Rattle.route.specs.Numbers.{node, dir-of, arrival-of}
+use Rattle.route.specs.Numbers.{node, dir-of, arrival-of, channels}
 use Rattle.route.specs.Paths.{same-place}
-use Rattle.route.specs.Channels.{channel, start, way, far, channels, is-channel, in-turn}
+use Rattle.route.specs.Channels.{channel, start, way, far, is-channel, in-turn}
 use Rattle.route.specs.Check.{bends, falls, first-after, first-from, no-pair, first-pair}
 use Rattle.route.specs.Coded.{Ends}
-use Rattle.route.proofs.Tests.{fails, no-if-not, yes-if-not, no-if, yes-if}
+use Rattle.route.proofs.Tests.{fails, leb-is, no-if-not, yes-if-not, no-if, yes-if}
 use Rattle.route.proofs.Codes.{bends-not, bends-so, number-of-dir, arrival-going}
 use Rattle.route.proofs.Least.{the-least}
 use Rattle.route.proofs.Nodes.{hop-inside, start-inside, start-node, channel-start, channel-way, channel-below, channel-is, joined, a-channel}
 
 -- ---- the channels after one
-same-self : (n : Place) → same-place n n ≡ true
-same-self n = rw (eq-eqb (coord horiz n) (coord horiz n) refl, eq-eqb (coord vert n) (coord vert n) refl) refl
+same-place-self : (n : Place) → same-place n n ≡ true
+same-place-self n = rw (eq-eqb (coord horiz n) (coord horiz n) refl, eq-eqb (coord vert n) (coord vert n) refl) refl
 
 -- a channel that exists and its end, as the code has found them
-pub ending : (m : Mesh) (i : ℕ) {s t : Place} {w : ℕ} {b : Bool} → i < channels m → s ≡ start (m .columns) i → w ≡ i % 4 → b ≡ exists m s (dir-of w) → not b ≡ false
+pub ending : (m : Mesh) (i : ℕ) {s t : Place} {w : ℕ} {b : Bool} → i < channels (m .columns) (m .rows) → s ≡ start (m .columns) i → w ≡ i % 4 → b ≡ exists m s (dir-of w) → not b ≡ false
     → t ≡ hop (dir-of w) s → Ends m i t
 ending m i low hs hw hb h ht = record { known = a-channel m i low hs hw hb h; ends = rw (hs, hw) at ht }
 
 module _ (m : Mesh) (i : ℕ) {s : Place} (e : Ends m i s) where
-  pub below : i < channels m
+  pub below : i < channels (m .columns) (m .rows)
   below = channel-is m i (rw (e .known) tt) .0
 
   pub inside : Inside m s
@@ -70,11 +70,11 @@ module _ (m : Mesh) (l : List ℕ) (i : ℕ) where
       by-tests =
           ap (λ n. asked n (way o)) (channel-start C s (dir-of d) (inside m i e .0))
           ∙ ap (asked s) (channel-way C s (dir-of d))
-          ∙ rw (e .known, lt-ltb o (channels m) (channel-below m s (dir-of d) (inside m i e)), sym (e .ends), same-self s) refl
+          ∙ rw (e .known, lt-ltb o (channels (m .columns) (m .rows)) (channel-below m s (dir-of d) (inside m i e)), sym (e .ends), same-place-self s) refl
         where
           asked : Place → Dir → Bool
           asked n e =
-              (((is-channel m i && (ltb o (channels m) && exists m n e)) && (same-place (far C i) n && turn m (coord horiz n) (going (way i)) e)) && bends (way i) e)
+              (((is-channel m i && (ltb o (channels (m .columns) (m .rows)) && exists m n e)) && (same-place (far C i) n && turn m (coord horiz n) (going (way i)) e)) && bends (way i) e)
               && leb (getD l o 0) (getD l i 0)
 
       -- straight on or back
@@ -91,9 +91,10 @@ module _ (m : Mesh) (l : List ℕ) (i : ℕ) where
 
       -- an allowed turn by 90 degrees: the numbers decide
       pub compared : {x y r : Bool} → (i % 4 / 2 ≡ d / 2 → ⊥) → x ≡ exists m s (dir-of d) → not x ≡ false
-          → y ≡ turn m (coord horiz s) (arrival-of (i % 4)) (dir-of d) → not y ≡ false → r ≡ leb (getD l o 0) (getD l i 0) → r ≡ falls m l i o
-      compared f hx h hy k hr =
-          hr
+          → y ≡ turn m (coord horiz s) (arrival-of (i % 4)) (dir-of d) → not y ≡ false
+          → (r ≡ true → getD l o 0 ≤ getD l i 0) → (r ≡ false → getD l i 0 < getD l o 0) → r ≡ falls m l i o
+      compared f hx h hy k if-true if-false =
+          leb-is if-true if-false
           ∙ sym (rw (by-tests, bends-so (i % 4) d (omega arith) low f, yes-if-not hx h, rw (arrival-going (i % 4) (omega arith)) at (yes-if-not hy k)) refl)
 
     -- ---- the first that falls: w of the four directions have been looked at
@@ -114,7 +115,7 @@ module _ (m : Mesh) (l : List ℕ) (i : ℕ) where
 
       pub found : {b : Bool} → b ≡ falls m l i (channel C s (dir-of w)) → b ≡ true → channel C s (dir-of w) ≡ first-after m l i
       found hb h =
-          sym (the-least (falls m l i) (channels m) (channel C s (dir-of w)) (record {
+          sym (the-least (falls m l i) (channels (m .columns) (m .rows)) (channel C s (dir-of w)) (record {
             high = omega (arith, channel-below m s (dir-of w) (inside m i e));
             before = λ o j. passed o (omega (arith, next));
             passes = λ j. yes-if hb h;
@@ -127,29 +128,29 @@ module _ (m : Mesh) (l : List ℕ) (i : ℕ) where
         by true e = passed o (ltb-true o (4 * node C s + w) e)
         by false e = elsewhere o (λ q. omega (arith, ltb-false o (4 * node C s + w) e))
 
-  pub none-falls : {n : ℕ} → n ≡ channels m → ((o : ℕ) → falls m l i o ≡ false) → n ≡ first-after m l i
+  pub none-falls : {n : ℕ} → n ≡ channels (m .columns) (m .rows) → ((o : ℕ) → falls m l i o ≡ false) → n ≡ first-after m l i
   none-falls e h =
-      e ∙ sym (the-least (falls m l i) (channels m) (channels m) (record { high = omega arith; before = λ o j. h o; passes = λ j. absurd (omega arith) }))
+      e ∙ sym (the-least (falls m l i) (channels (m .columns) (m .rows)) (channels (m .columns) (m .rows)) (record { high = omega arith; before = λ o j. h o; passes = λ j. absurd (omega arith) }))
 
 -- ---- the first pair: the channels below i have been looked at
-module _ (m : Mesh) (l : List ℕ) (i : ℕ) (passed : (j : ℕ) → j < i → ltb (first-after m l j) (channels m) ≡ false) where
+module _ (m : Mesh) (l : List ℕ) (i : ℕ) (passed : (j : ℕ) → j < i → ltb (first-after m l j) (channels (m .columns) (m .rows)) ≡ false) where
   abbrev fallen : ℕ → Bool
-  fallen j = ltb (first-after m l j) (channels m)
+  fallen j = ltb (first-after m l j) (channels (m .columns) (m .rows))
 
-  pub pass-on : {o : ℕ} → o ≡ first-after m l i → channels m ≤ o → (j : ℕ) → j < i + 1 → fallen j ≡ false
+  pub pass-on : {o : ℕ} → o ≡ first-after m l i → channels (m .columns) (m .rows) ≤ o → (j : ℕ) → j < i + 1 → fallen j ≡ false
   pass-on e h j k =
       let q : j ≤ i = omega arith in
-      ⊎-elim (λ z. subst (λ x. fallen x ≡ false) (sym z) (le-ltb (first-after m l i) (channels m) (rw e at h))) (passed j) (eq-or-lt-of-le q)
+      ⊎-elim (λ z. subst (λ x. fallen x ≡ false) (sym z) (le-ltb (first-after m l i) (channels (m .columns) (m .rows)) (rw e at h))) (passed j) (eq-or-lt-of-le q)
 
-  pub names : {o : ℕ} {r : Checked} → o ≡ first-after m l i → o < channels m → i < channels m → r .refusal ≡ 14 → r .incoming ≡ i → r .outgoing ≡ o → r ≡ first-pair m l
+  pub names : {o : ℕ} {r : Checked} → o ≡ first-after m l i → o < channels (m .columns) (m .rows) → i < channels (m .columns) (m .rows) → r .refusal ≡ 14 → r .incoming ≡ i → r .outgoing ≡ o → r ≡ first-pair m l
   unfolding first-pair
   names e h k hr hi ho =
-      let q : first-after m l i < channels m = rw e at h in
-      let z : first-from m l ≡ i = the-least fallen (channels m) i (record { high = omega arith; before = passed; passes = λ p. lt-ltb (first-after m l i) (channels m) q }) in
-      rw (z, lt-ltb i (channels m) k, sym e) (λ x. record { refusal = hr x; incoming = hi x; outgoing = ho x })
+      let q : first-after m l i < channels (m .columns) (m .rows) = rw e at h in
+      let z : first-from m l ≡ i = the-least fallen (channels (m .columns) (m .rows)) i (record { high = omega arith; before = passed; passes = λ p. lt-ltb (first-after m l i) (channels (m .columns) (m .rows)) q }) in
+      rw (z, lt-ltb i (channels (m .columns) (m .rows)) k, sym e) (λ x. record { refusal = hr x; incoming = hi x; outgoing = ho x })
 
-  pub accepts : channels m ≤ i → no-pair 0 ≡ first-pair m l
+  pub accepts : channels (m .columns) (m .rows) ≤ i → no-pair 0 ≡ first-pair m l
   unfolding first-pair
   accepts h =
-      let z : first-from m l ≡ channels m = the-least fallen (channels m) (channels m) (record { high = omega arith; before = λ j p. passed j (omega arith); passes = λ p. absurd (omega arith) }) in
-      rw (z, le-ltb (channels m) (channels m) (omega arith)) refl
+      let z : first-from m l ≡ channels (m .columns) (m .rows) = the-least fallen (channels (m .columns) (m .rows)) (channels (m .columns) (m .rows)) (record { high = omega arith; before = λ j p. passed j (omega arith); passes = λ p. absurd (omega arith) }) in
+      rw (z, le-ltb (channels (m .columns) (m .rows)) (channels (m .columns) (m .rows)) (omega arith)) refl

@@ -1,6 +1,6 @@
 -- The places of nodes and channels, and back: by the laws of quotient and remainder. Assumes nothing.
 use Prim.Native.Nat.{ℕ, zero, suc, _*_, _/_, _%_, _≤_, _<_}
-use mathlib.Core.Path.{_≡_, refl}
+use mathlib.Core.Path.{_≡_, refl, _∙_}
 use mathlib.Core.Bool.{Bool, true, false, _&&_, _||_, not}
 use native.Mathlib.Nat.{mod-lt, div-lt-iff-lt-mul, div-add-mod, mul-le-mul-left, mul-le-mul}
 use native.Mathlib.Omega.{arith}
@@ -9,13 +9,13 @@ use lib.Arith.{digits-lt, digits-div, digits-mod}
 use lib.Dec.{T, ltb, leb, eqb, ltb→lt, eqb→eq}
 use borrow.Author.Tests.{leb-false, lt-ltb}
 use Rattle.route.specs.declared.places.Place.{Place}
-use Rattle.route.specs.Grid.{horiz, vert, less, more, Dir, go, coord, hop}
+use Rattle.route.specs.Grid.{horiz, vert, less, more, Dir, go, at, coord, hop}
 use Rattle.route.specs.Turns.{going}
 use Rattle.route.specs.Mesh.{Mesh, Inside, exists, turn, ruled}
-use Rattle.route.specs.Numbers.{node, place-of, number, dir-of, rule-of}
+use Rattle.route.specs.Numbers.{node, place-of, number, dir-of, rule-of, channels}
 use Rattle.route.specs.Served.{bad-mesh}
 use Rattle.route.specs.Paths.{same-place}
-use Rattle.route.specs.Channels.{channel, start, way, far, channels, is-channel, in-turn}
+use Rattle.route.specs.Channels.{channel, start, way, far, is-channel, in-turn}
 use Rattle.route.proofs.Every.{dirs}
 use Rattle.route.proofs.Tests.{neither, no-if-not, yes-if-not}
 use Rattle.route.proofs.Codes.{dir-of-number}
@@ -50,6 +50,10 @@ place-inside m k h =
     positive : (C R : ℕ) → k < C * R → 0 < C
     positive zero R i = absurd (omega arith)
     positive (suc C) R i = omega arith
+
+-- a place by what its coordinates are
+pub place-is : (C k : ℕ) {p : Place} {c r : ℕ} → p ≡ at c r → c ≡ k % C → r ≡ k / C → p ≡ place-of C k
+place-is C k hp hc hr = hp ∙ rw (hc, hr) refl
 
 -- the place of a node is inside the mesh
 pub inside-of : (C R rule node : ℕ) {m : Mesh} {p : Place} → m ≡ ruled (rule-of rule) C R 0 → p ≡ place-of C node → node < C * R → Inside m p
@@ -86,10 +90,10 @@ channel-way C n d =
     let e : channel C n d % 4 ≡ number d = omega (arith, number-low d) in
     rw e (dir-of-number d)
 
-pub channel-below : (m : Mesh) (n : Place) (d : Dir) → Inside m n → channel (m .columns) n d < channels m
+pub channel-below : (m : Mesh) (n : Place) (d : Dir) → Inside m n → channel (m .columns) n d < channels (m .columns) (m .rows)
 channel-below m n d i = omega (arith, node-below m n i, number-low d)
 
-pub start-inside : (m : Mesh) (k : ℕ) → k < channels m → Inside m (start (m .columns) k)
+pub start-inside : (m : Mesh) (k : ℕ) → k < channels (m .columns) (m .rows) → Inside m (start (m .columns) k)
 start-inside m k h = place-inside m (k / 4) (omega arith)
 
 -- the node of the place that a channel leaves
@@ -97,11 +101,11 @@ pub start-node : (C k : ℕ) → node C (start C k) ≡ k / 4
 start-node C k = node-of-place C (k / 4)
 
 -- a channel has a number in the list, and exists
-pub channel-is : (m : Mesh) (i : ℕ) → T (is-channel m i) → (i < channels m) × T (exists m (start (m .columns) i) (way i))
+pub channel-is : (m : Mesh) (i : ℕ) → T (is-channel m i) → (i < channels (m .columns) (m .rows)) × T (exists m (start (m .columns) i) (way i))
 unfolding is-channel
 channel-is m i h =
-    let e = and-yes (ltb i (channels m)) (exists m (start (m .columns) i) (way i)) h in
-    (ltb→lt i (channels m) (e .0), e .1)
+    let e = and-yes (ltb i (channels (m .columns) (m .rows))) (exists m (start (m .columns) i) (way i)) h in
+    (ltb→lt i (channels (m .columns) (m .rows)) (e .0), e .1)
 
 -- channel o may be used after channel i
 pub record Joined (m : Mesh) (i o : ℕ) : Type 0 where
@@ -126,18 +130,18 @@ pub bytes-fit : (a b : ℕ) → a ≤ 255 → b ≤ 255 → a * b ≤ 65025
 bytes-fit a b h i = mul-le-mul h i
 
 -- in a mesh with room a channel's number has the size that the code asks for
-pub number-high : (C R k : ℕ) → R ≤ 64 → k < 4 * (C * R) → k < 1024 * C
+pub number-high : (C R k : ℕ) → R ≤ 64 → k < channels C R → k < 1024 * C
 number-high C R k h i = omega (arith, mul-le-mul-left C h)
 
-pub words-fit : (C R : ℕ) → C ≤ 64 → R ≤ 64 → 4 * (C * R) ≤ 16384
+pub words-fit : (C R : ℕ) → C ≤ 64 → R ≤ 64 → channels C R ≤ 16384
 words-fit C R h i = omega (arith, mul-le-mul h i)
 
 -- ---- what the code has found of channel i: where it starts, its direction, whether it exists
-module _ (m : Mesh) (i : ℕ) {s : Place} {w : ℕ} {b : Bool} (low : i < channels m) (hs : s ≡ start (m .columns) i) (hw : w ≡ i % 4) (hb : b ≡ exists m s (dir-of w)) where
+module _ (m : Mesh) (i : ℕ) {s : Place} {w : ℕ} {b : Bool} (low : i < channels (m .columns) (m .rows)) (hs : s ≡ start (m .columns) i) (hw : w ≡ i % 4) (hb : b ≡ exists m s (dir-of w)) where
   pub not-channel : not b ≡ true → is-channel m i ≡ false
   unfolding is-channel
-  not-channel h = rw (lt-ltb i (channels m) low, rw (hs, hw) at (no-if-not hb h)) refl
+  not-channel h = rw (lt-ltb i (channels (m .columns) (m .rows)) low, rw (hs, hw) at (no-if-not hb h)) refl
 
   pub a-channel : not b ≡ false → is-channel m i ≡ true
   unfolding is-channel
-  a-channel h = rw (lt-ltb i (channels m) low, rw (hs, hw) at (yes-if-not hb h)) refl
+  a-channel h = rw (lt-ltb i (channels (m .columns) (m .rows)) low, rw (hs, hw) at (yes-if-not hb h)) refl

@@ -6,7 +6,6 @@ use mathlib.Core.Path.{_≡_, refl, ap}
 use mathlib.Core.List.{List, [], _∷_}
 use mathlib.Core.Logic.{_⊎_, inl, inr, ⊎-elim, _↔_}
 use native.Mathlib.Omega.{arith}
-use lib.ListN.{getD}
 use lib.Dec.{T}
 use Rattle.route.specs.declared.checks.Checked.{Checked}
 use Rattle.route.specs.declared.places.Place.{Place}
@@ -15,9 +14,8 @@ use Rattle.route.specs.Turns.{Arrival, local, going, Rule, negative-firs
 use Rattle.route.specs.Mesh.{Mesh, Inside, exists, turn, ruled}
 use Rattle.route.specs.Paths.{same-place, Shortest, answer}
 use Rattle.route.specs.Route.{outputs}
-use Rattle.route.specs.Channels.{way, in-turn}
 use Rattle.route.specs.House.{house}
-use Rattle.route.specs.Check.{bends, first-pair}
+use Rattle.route.specs.Check.{first-pair}
 use Rattle.route.proofs.Shortest as hops
 use Rattle.route.proofs.Exact.{in-answer}
 use Rattle.route.proofs.Outputs.{empty-set}
@@ -26,8 +24,11 @@ use Rattle.route.proofs.Open.{open-way}
 -- for every turn table: a direction is in the answer exactly if some shortest legal path begins with it (by-paths); no legal path is
 -- shorter than the distance (none-shorter)
 pub use Rattle.route.proofs.Shortest.{by-paths, none-shorter}
--- for every turn table: where the check names a pair, that pair falls and none before it does (First, first)
-pub use Rattle.route.proofs.Accepts.{First, first}
+-- the channel that has the number of a place and a direction leaves that place by that direction
+pub use Rattle.route.proofs.Nodes.{channel-start, channel-way}
+-- for every turn table: a list rises if its numbers do at every allowed turn by 90 degrees (Rising); where the check names a pair, that
+-- pair falls and none before it does (First, first)
+pub use Rattle.route.proofs.Accepts.{Rising, First, first}
 -- for the five rules, all sizes and either parity of the first column: the house numbers rise from every channel to every one that may be
 -- used next, turns and straight runs alike (rises, by places; house-rises, by numbers of channels; list-rises, in the list); none reaches
 -- twice the product of the sides, each longer by one (bounded, house-bounded); and the check accepts what the numbering call wrote
@@ -82,8 +83,8 @@ connected k C R f n t inside away =
 
 -- ---- the check of a list, for every turn table
 module _ (m : Mesh) (l : List ℕ) where
-  -- it accepts exactly if the numbers rise at every allowed turn by 90 degrees
-  pub accepts-rising : (first-pair m l .refusal ≡ 0) ↔ ((i o : ℕ) → T (in-turn m i o) → T (bends (way i) (way o)) → getD l i 0 < getD l o 0)
+  -- it accepts exactly the lists that rise
+  pub accepts-rising : (first-pair m l .refusal ≡ 0) ↔ Rising m l
   accepts-rising = (rising m l, λ h. ap (λ (r : Checked). r .refusal) (accepted m l h))
 
 -- ---- the house numbers, for the five rules

@@ -18,7 +18,7 @@ module _ (C R rule n a t : ℕ) {k : ℕ} (hk : k ≡ bad-mesh C R rule) where
 
   pub refused-mesh : {r : Routed} → (k ≡ 0 → ⊥) → r ≡ refuse k → r ≡ routed C R rule n a t
   unfolding routed
-  refused-mesh h e = e ∙ rw (sym hk) (sym (unless.given refuse _ k h))
+  refused-mesh h e = e ∙ rw (sym hk) (sym (unless.refuses refuse _ k h))
 
   module _ (served : k ≡ 0) where
     pub refused-3 : {r : Routed} → leb (C * R) n || leb (C * R) t ≡ true → r ≡ refuse 3 → r ≡ routed C R rule n a t
@@ -36,7 +36,8 @@ module _ (C R rule n a t : ℕ) {k : ℕ} (hk : k ≡ bad-mesh C R rule) where
         refused-11 h e =
             e ∙ rw (sym hk ∙ served, nodes, rw (hb, hg, hh) at arrived, eq-eqb _ 0 (rw (hs, hg, hh, ht) at h)) refl
 
-        pub given : (s ≡ 0 → ⊥) → record { refusal = 0; outputs = s } ≡ routed C R rule n a t
+        pub given : {r : Routed} → (s ≡ 0 → ⊥) → r .refusal ≡ 0 → r .outputs ≡ s → r ≡ routed C R rule n a t
         unfolding routed
-        given h =
-            rw (sym hk ∙ served, nodes, rw (hb, hg, hh) at arrived, ne-eqb _ 0 (rw (hs, hg, hh, ht) at h), hs, hg, hh, ht) refl
+        given h z e =
+            rw (sym hk ∙ served, nodes, rw (hb, hg, hh) at arrived, ne-eqb _ 0 (rw (hs, hg, hh, ht) at h))
+            (λ i. record { refusal = z i; outputs = (e ∙ rw (hg, hh, ht) at hs) i })

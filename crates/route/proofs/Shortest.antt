@@ -2,9 +2,10 @@
 -- and the answer has a direction exactly if a shortest path begins with it. Assumes nothing.
 use Prim.Native.Nat.{ℕ, zero, suc, _≤_, _<_}
 use mathlib.Core.Path.{_≡_, refl, sym}
-use mathlib.Core.Logic.{⊎-elim, _↔_}
-use mathlib.Core.List.{List, [], _∷_}
 use mathlib.Core.Bool.{Bool, _&&_, _||_}
+use mathlib.Core.List.{List, [], _∷_}
+use mathlib.Core.Logic.{⊎-elim, _↔_}
+use native.Mathlib.Nat.{eq-zero-or-pos}
 use native.Mathlib.Omega.{arith}
 use mir.Facts.{and-yes, yes-and, or-yes}
 use lib.ListN.{length}
@@ -15,9 +16,9 @@ use Rattle.route.specs.Turns.{Arrival, going}
 use Rattle.route.specs.Mesh.{Mesh, side, exists, turn}
 use Rattle.route.specs.Numbers.{number}
 use Rattle.route.specs.Paths.{same-place, legal, Shortest, some-dir, some-run, begins, answer}
-use Rattle.route.proofs.Tests.{or-l, or-r, zero-or}
-use Rattle.route.proofs.Axis as axis
 use Rattle.route.proofs.Every.{dirs, number-apart}
+use Rattle.route.proofs.Tests.{or-l, or-r}
+use Rattle.route.proofs.Axis as axis
 
 -- how many hops that way are left on a shortest path from n to t
 abbrev pub ahead : Dir → Place → Place → ℕ
@@ -64,7 +65,7 @@ module _ (m : Mesh) (t : Place) where
       let b = begun n a d p l in
       ⊎-elim (λ z. omega (arith, further m d n t (b .0) z, none-shorter p (hop d n) (going d) (b .2)))
       (λ z. omega (arith, closer d n t z, none-shorter p (hop d n) (going d) (b .2)))
-      (zero-or (ahead d n t))
+      (eq-zero-or-pos (ahead d n t))
 
   pub first-hop : {n : Place} {a : Arrival} {d : Dir} {p : List Dir} → Shortest m n a t (d ∷ p)
       → (0 < ahead d n t) × Shortest m (hop d n) (going d) t p
@@ -72,7 +73,7 @@ module _ (m : Mesh) (t : Place) where
       let b = begun n a d p (s .lawful) in
       ⊎-elim (λ z. absurd (omega (arith, further m d n t (b .0) z, none-shorter p (hop d n) (going d) (b .2), s .least)))
       (λ z. (z, record { lawful = b .2; least = omega (arith, closer d n t z, s .least) }))
-      (zero-or (ahead d n t))
+      (eq-zero-or-pos (ahead d n t))
 
   -- one hop: d begins a shortest path exactly if the turn is allowed and a shortest path goes on from there
   pub hop-iff : (n : Place) (a : Arrival) (d : Dir) (q : Bool) → T (exists m n d) → 0 < ahead d n t

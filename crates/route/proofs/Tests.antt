@@ -1,11 +1,10 @@
 -- Laws of tests: each by the cases of its Booleans. Assumes nothing.
-use Prim.Native.Nat.{ℕ, zero, suc, _<_}
+use Prim.Native.Nat.{ℕ, _≤_, _<_}
 use mathlib.Core.Path.{_≡_, refl, sym, subst, _∙_}
 use mathlib.Core.Bool.{Bool, true, false, _||_, not}
-use mathlib.Core.Logic.{_⊎_, inl, inr, _↔_}
-use native.Mathlib.Omega.{arith}
-use lib.Dec.{T}
-use borrow.Author.Tests.{not-true, not-false}
+use mathlib.Core.Logic.{_↔_}
+use lib.Dec.{T, leb}
+use borrow.Author.Tests.{not-true, not-false, le-leb, lt-leb}
 
 pub or-l : (a b : Bool) → T a → T (a || b)
 or-l true b t = tt
@@ -27,10 +26,6 @@ tests-alike true false f = absurd (f .0 tt)
 tests-alike false true f = absurd (f .1 tt)
 tests-alike false false f = refl
 
-pub zero-or : (k : ℕ) → (k ≡ 0) ⊎ (0 < k)
-zero-or zero = inl refl
-zero-or (suc k) = inr (omega arith)
-
 pub neither : {a b : Bool} → a || b ≡ false → (a ≡ false) × (b ≡ false)
 neither {a = false} h = (refl, h)
 neither {a = true} h = absurd (subst T h tt)
@@ -41,6 +36,11 @@ passes true t = refl
 pub fails : (b : Bool) → (T b → ⊥) → b ≡ false
 fails true f = absurd (f tt)
 fails false f = refl
+
+-- a comparison, by what its answers mean
+pub leb-is : {r : Bool} {a b : ℕ} → (r ≡ true → a ≤ b) → (r ≡ false → b < a) → r ≡ leb a b
+leb-is {r = true} {a} {b} f g = sym (le-leb a b (f refl))
+leb-is {r = false} {a} {b} f g = sym (lt-leb a b (g refl))
 
 -- ---- what a branch has taught of a test that a callee made
 pub no-if-not : {r x : Bool} → r ≡ x → not r ≡ true → x ≡ false

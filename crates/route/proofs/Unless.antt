@@ -7,13 +7,14 @@ use native.Mathlib.Omega.{arith}
 use lib.Dec.{ltb, eqb}
 use borrow.Author.Tests.{ltb-false, eqb-true, eq-eqb, ne-eqb}
 use Rattle.route.specs.Grid.{pick}
+use Rattle.route.specs.Numbers.{channels}
 use Rattle.route.specs.Served.{off-side, unless, bad-mesh, bad-list}
 use Rattle.route.proofs.Tests.{neither}
 
 -- a refusal is given as it is; with 0 the call is served
-pub given : {A : Type 0} (refuse : ℕ → A) (served : A) (k : ℕ) → (k ≡ 0 → ⊥) → unless refuse k served ≡ refuse k
-given refuse served zero h = absurd (h refl)
-given refuse served (suc k) h = refl
+pub refuses : {A : Type 0} (refuse : ℕ → A) (served : A) (k : ℕ) → (k ≡ 0 → ⊥) → unless refuse k served ≡ refuse k
+refuses refuse served zero h = absurd (h refl)
+refuses refuse served (suc k) h = refl
 
 -- ---- a mesh
 -- sides and a rule that the calls serve
@@ -61,22 +62,22 @@ served C R rule hk h = at (off-side C || off-side R) (ltb 4 rule) refl refl (sym
 -- ---- a list
 module _ (C R rule length : ℕ) {k : ℕ} (hk : k ≡ bad-mesh C R rule) where
   pub bad-first : (k ≡ 0 → ⊥) → k ≡ bad-list C R rule length
-  bad-first h = rw (sym hk) (sym (given (λ i. i) _ k h))
+  bad-first h = rw (sym hk) (sym (refuses (λ i. i) _ k h))
 
-  pub bad-length : k ≡ 0 → (length ≡ 4 * (C * R) → ⊥) → 7 ≡ bad-list C R rule length
-  bad-length z h = rw (sym hk ∙ z, ne-eqb length (4 * (C * R)) h) refl
+  pub bad-length : k ≡ 0 → (length ≡ channels C R → ⊥) → 7 ≡ bad-list C R rule length
+  bad-length z h = rw (sym hk ∙ z, ne-eqb length (channels C R) h) refl
 
-  pub good-list : k ≡ 0 → length ≡ 4 * (C * R) → 0 ≡ bad-list C R rule length
-  good-list z h = rw (sym hk ∙ z, eq-eqb length (4 * (C * R)) h) refl
+  pub good-list : k ≡ 0 → length ≡ channels C R → 0 ≡ bad-list C R rule length
+  good-list z h = rw (sym hk ∙ z, eq-eqb length (channels C R) h) refl
 
 -- what no refusal of a list has taught
-pub list-served : (C R rule length : ℕ) {k : ℕ} → k ≡ bad-list C R rule length → k ≡ 0 → Served C R rule × (length ≡ 4 * (C * R))
+pub list-served : (C R rule length : ℕ) {k : ℕ} → k ≡ bad-list C R rule length → k ≡ 0 → Served C R rule × (length ≡ channels C R)
 list-served C R rule length hk h = at (bad-mesh C R rule) refl (sym hk ∙ h)
   where
-    at : (j : ℕ) → bad-mesh C R rule ≡ j → unless (λ i. i) j (pick (eqb length (4 * (C * R))) 0 7) ≡ 0 → Served C R rule × (length ≡ 4 * (C * R))
+    at : (j : ℕ) → bad-mesh C R rule ≡ j → unless (λ i. i) j (pick (eqb length (channels C R)) 0 7) ≡ 0 → Served C R rule × (length ≡ channels C R)
     at (suc j) q e = absurd (omega arith)
-    at zero q e = (served C R rule (sym q) refl, fits (eqb length (4 * (C * R))) refl e)
+    at zero q e = (served C R rule (sym q) refl, fits (eqb length (channels C R)) refl e)
       where
-        fits : (b : Bool) → eqb length (4 * (C * R)) ≡ b → _≡_ {A = ℕ} (pick b 0 7) 0 → length ≡ 4 * (C * R)
-        fits true p i = eqb-true length (4 * (C * R)) p
+        fits : (b : Bool) → eqb length (channels C R) ≡ b → _≡_ {A = ℕ} (pick b 0 7) 0 → length ≡ channels C R
+        fits true p i = eqb-true length (channels C R) p
         fits false p i = absurd (omega arith)

@@ -6,7 +6,7 @@ use Rattle.route.specs.declared.places.Place.{Place}
 use Rattle.route.specs.Grid.{horiz, Dir, coord, hop}
 use Rattle.route.specs.Turns.{going}
 use Rattle.route.specs.Mesh.{Mesh, exists, turn}
-use Rattle.route.specs.Numbers.{node, place-of, number, dir-of}
+use Rattle.route.specs.Numbers.{node, place-of, channels, number, dir-of}
 use Rattle.route.specs.Paths.{same-place}
 
 -- the number of the channel that leaves a place by d, in a mesh of C columns
@@ -25,13 +25,9 @@ way k = dir-of (k % 4)
 abbrev pub far : ℕ → ℕ → Place
 far C k = hop (way k) (start C k)
 
--- how many numbers there are for the channels of a mesh
-abbrev pub channels : Mesh → ℕ
-channels m = 4 * (m .columns * m .rows)
-
 -- a number is that of a channel
 unfoldable pub is-channel : Mesh → ℕ → Bool
-is-channel m k = ltb k (channels m) && exists m (start (m .columns) k) (way k)
+is-channel m k = ltb k (channels (m .columns) (m .rows)) && exists m (start (m .columns) k) (way k)
 
 -- a packet may use channel o after channel i: o begins where i ends, and there the turn is allowed, or o leads straight on
 unfoldable pub in-turn : Mesh → ℕ → ℕ → Bool

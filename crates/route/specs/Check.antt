@@ -7,9 +7,9 @@ use lib.Dec.{ltb, leb}
 use Rattle.route.specs.declared.checks.Checked.{Checked}
 use Rattle.route.specs.Grid.{pick, horiz, vert, Dir, go}
 use Rattle.route.specs.Mesh.{Mesh, ruled}
-use Rattle.route.specs.Numbers.{rule-of}
+use Rattle.route.specs.Numbers.{rule-of, channels}
 use Rattle.route.specs.Served.{unless, bad-list}
-use Rattle.route.specs.Channels.{way, channels, in-turn}
+use Rattle.route.specs.Channels.{way, in-turn}
 
 -- from one direction to another is a turn by 90 degrees
 abbrev pub bends : Dir → Dir → Bool
@@ -29,11 +29,11 @@ least test (suc n) = let k = least test n in pick (ltb k n) k (pick (test n) n (
 
 -- the first channel to which the numbers do not rise from channel i
 abbrev pub first-after : Mesh → List ℕ → ℕ → ℕ
-first-after m list i = least (falls m list i) (channels m)
+first-after m list i = least (falls m list i) (channels (m .columns) (m .rows))
 
 -- the first channel from which they do not rise to some other
 abbrev pub first-from : Mesh → List ℕ → ℕ
-first-from m list = least (λ i. ltb (first-after m list i) (channels m)) (channels m)
+first-from m list = least (λ i. ltb (first-after m list i) (channels (m .columns) (m .rows))) (channels (m .columns) (m .rows))
 
 -- an answer that names no pair
 abbrev pub no-pair : ℕ → Checked
@@ -43,7 +43,7 @@ no-pair refusal = record { refusal = refusal; incoming = 0; outgoing = 0 }
 unfoldable pub first-pair : Mesh → List ℕ → Checked
 first-pair m list =
     let i = first-from m list in
-    pick (ltb i (channels m)) (record { refusal = 14; incoming = i; outgoing = first-after m list i }) (no-pair 0)
+    pick (ltb i (channels (m .columns) (m .rows))) (record { refusal = 14; incoming = i; outgoing = first-after m list i }) (no-pair 0)
 
 -- the call: the first refusal that applies, else what the list's numbers say
 unfoldable pub checked : ℕ → ℕ → ℕ → List ℕ → Checked

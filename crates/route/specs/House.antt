@@ -6,9 +6,9 @@ use Rattle.route.specs.declared.places.Place.{Place}
 use Rattle.route.specs.Grid.{pick, horiz, vert, Sense, less, more, Dir, go, coord}
 use Rattle.route.specs.Turns.{Parity, even, odd, parity, Rule, xy, west-first, north-last, negative-first, odd-even}
 use Rattle.route.specs.Mesh.{Mesh, ruled}
-use Rattle.route.specs.Numbers.{rule-of}
+use Rattle.route.specs.Numbers.{rule-of, channels}
 use Rattle.route.specs.Served.{unless, bad-list}
-use Rattle.route.specs.Channels.{start, way, channels, is-channel}
+use Rattle.route.specs.Channels.{start, way, is-channel}
 
 -- of the r rows to the south and the d rows to the north, those behind a channel that leads so
 abbrev pub behind : Sense → ℕ → ℕ → ℕ
@@ -56,7 +56,7 @@ upto f (suc n) = upto f n ++ (f n ∷ [])
 
 -- the numbering as a list: a word for each number of a channel
 abbrev pub numbering : Rule → Mesh → List ℕ
-numbering k m = upto (house-of k m) (channels m)
+numbering k m = upto (house-of k m) (channels (m .columns) (m .rows))
 
 -- what the call leaves: its answer and the list
 pub record Numbered : Type 0 where

@@ -12,6 +12,10 @@ node C n = coord vert n * C + coord horiz n
 abbrev pub place-of : ℕ → ℕ → Place
 place-of C k = at (k % C) (k / C)
 
+-- how many numbers there are for the channels of C columns and R rows: four a node
+abbrev pub channels : ℕ → ℕ → ℕ
+channels C R = 4 * (C * R)
+
 -- the number of a direction
 abbrev pub number : Dir → ℕ
 number (go horiz less) = 0

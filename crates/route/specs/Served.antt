@@ -1,8 +1,9 @@
 -- What the calls refuse before they look at anything else: the sides, the rule, the length of a list. Assumes nothing.
-use Prim.Native.Nat.{ℕ, zero, suc, _*_}
+use Prim.Native.Nat.{ℕ, zero, suc}
 use mathlib.Core.Bool.{Bool, _||_}
 use lib.Dec.{ltb, eqb}
 use Rattle.route.specs.Grid.{pick}
+use Rattle.route.specs.Numbers.{channels}
 
 -- a side is not 2 to 16 long
 abbrev pub off-side : ℕ → Bool
@@ -17,6 +18,6 @@ unless refuse (suc k) served = refuse (suc k)
 abbrev pub bad-mesh : ℕ → ℕ → ℕ → ℕ
 bad-mesh C R rule = pick (off-side C || off-side R) 1 (pick (ltb 4 rule) 2 0)
 
--- and of a list of so many words, lent for its numbering: then 7, for any but four words a node
+-- and of a list of so many words, lent for its numbering: then 7, unless there is a word for each number of a channel
 abbrev pub bad-list : ℕ → ℕ → ℕ → ℕ → ℕ
-bad-list C R rule length = unless (λ k. k) (bad-mesh C R rule) (pick (eqb length (4 * (C * R))) 0 7)
+bad-list C R rule length = unless (λ k. k) (bad-mesh C R rule) (pick (eqb length (channels C R)) 0 7)

@@ -9,8 +9,8 @@ use crate::refusals::bad_list;
 ghost use mathlib.Core.Path.{_≡_};
 ghost use Prim.Native.Nat.{_<_};
 ghost use lib.ListN.{length};
-ghost use Rattle.route.specs.Channels.{channel, channels};
-ghost use Rattle.route.specs.Numbers.{dir-of};
+ghost use Rattle.route.specs.Channels.{channel};
+ghost use Rattle.route.specs.Numbers.{dir-of, channels};
 ghost use Rattle.route.specs.Check.{falls, first-after, no-pair, first-pair, checked};
 ghost use Rattle.route.specs.Coded.{meant, Roomy, Ends};
 
@@ -25,7 +25,7 @@ pub struct Checked {
 // do not rise?
 fn falls(m: Mesh, list: &[u16], incoming: usize, out: Channel) -> bool
     requires { ⌜ Roomy m ⌝ }
-    requires { ⌜ length (now list) ≡ channels (meant m) ⌝ }
+    requires { ⌜ length (now list) ≡ channels (m .columns) (m .rows) ⌝ }
     requires { ⌜ Ends (meant m) incoming (out .start) ⌝ }
     requires { ⌜ out .way < 4 ⌝ }
     ensures { λ r. ⌜ r ≡ falls (meant m) (now (list .entry)) incoming (channel (m .columns) (out .start) (dir-of (out .way))) ⌝ }
@@ -49,8 +49,8 @@ fn falls(m: Mesh, list: &[u16], incoming: usize, out: Channel) -> bool
 // The first channel to which the numbers do not rise from this one; the list's length if there is none.
 fn first_after(m: Mesh, list: &[u16], incoming: usize) -> usize
     requires { ⌜ Roomy m ⌝ }
-    requires { ⌜ length (now list) ≡ channels (meant m) ⌝ }
-    requires { ⌜ incoming < channels (meant m) ⌝ }
+    requires { ⌜ length (now list) ≡ channels (m .columns) (m .rows) ⌝ }
+    requires { ⌜ incoming < channels (m .columns) (m .rows) ⌝ }
     ensures { λ r. ⌜ r ≡ first-after (meant m) (now (list .entry)) incoming ⌝ }
 {
     let from = channel_of(m.columns, incoming as u16);
@@ -83,7 +83,7 @@ fn no_pair(refusal: u8) -> Checked
 // The first pair of channels at which the numbers do not rise.
 fn first_pair(m: Mesh, list: &[u16]) -> Checked
     requires { ⌜ Roomy m ⌝ }
-    requires { ⌜ length (now list) ≡ channels (meant m) ⌝ }
+    requires { ⌜ length (now list) ≡ channels (m .columns) (m .rows) ⌝ }
     ensures { λ r. ⌜ r ≡ first-pair (meant m) (now (list .entry)) ⌝ }
 {
     let mut incoming = 0;

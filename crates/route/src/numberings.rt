@@ -7,8 +7,7 @@ use crate::refusals::bad_list;
 ghost use mathlib.Core.Path.{_≡_};
 ghost use Prim.Native.Nat.{_<_};
 ghost use lib.ListN.{length};
-ghost use Rattle.route.specs.Numbers.{rule-of};
-ghost use Rattle.route.specs.Channels.{channels};
+ghost use Rattle.route.specs.Numbers.{rule-of, channels};
 ghost use Rattle.route.specs.House.{house-of, numbering, numbered};
 ghost use Rattle.route.specs.Coded.{meant, Roomy};
 
@@ -16,7 +15,7 @@ ghost use Rattle.route.specs.Coded.{meant, Roomy};
 fn word_of(m: Mesh, rule: u8, number: u16) -> u16
     requires { ⌜ Roomy m ⌝ }
     requires { ⌜ rule < 5 ⌝ }
-    requires { ⌜ number < channels (meant m) ⌝ }
+    requires { ⌜ number < channels (m .columns) (m .rows) ⌝ }
     ensures { λ r. ⌜ r ≡ house-of (rule-of rule) (meant m) number ⌝ }
 {
     let c = channel_of(m.columns, number);
@@ -30,7 +29,7 @@ fn word_of(m: Mesh, rule: u8, number: u16) -> u16
 fn fill(m: Mesh, rule: u8, list: &mut [u16])
     requires { ⌜ Roomy m ⌝ }
     requires { ⌜ rule < 5 ⌝ }
-    requires { ⌜ length (now list) ≡ channels (meant m) ⌝ }
+    requires { ⌜ length (now list) ≡ channels (m .columns) (m .rows) ⌝ }
     ensures { λ _. ⌜ now (list .exit) ≡ numbering (rule-of rule) (meant m) ⌝ }
 {
     let mut k = 0;

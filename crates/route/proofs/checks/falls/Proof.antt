@@ -1,7 +1,7 @@
 -- Each return by the test that led there; a channel that leaves a place inside the mesh has its word in the list. Assumes nothing.
-use mathlib.Core.Path.{refl}
 use native.Mathlib.Omega.{arith}
 use borrow.Author.Needs.{needs}
+use borrow.Author.Tests.{ltb-true, ltb-false, leb-true, leb-false}
 use Rattle.route.specs.Numbers.{dir-of}
 use Rattle.route.specs.Coded.{meant, Ends}
 use Rattle.route.proofs.Nodes.{node-below, channel-below, words-fit}
@@ -73,7 +73,8 @@ returns-4 : tie.Need-returns-4
 returns-4 c =
     let x = c .before .before .before .before .before .before .before .before .before .before .args in
     let e : Ends (meant (x .m)) (x .incoming) (x .out .start) = search needs in
-    compared (meant (x .m)) (x .list .now) (x .incoming) e (x .out .way) (omega arith) (omega arith) (c .before .before .before .before .before .before .exists .ensures) (c .before .before .before .before .before .if2 .left) (c .before .before .before .before .turn-ok .ensures) (c .before .before .before .if3 .left) (rw (c .before .before .number .ensures) refl)
+    compared (meant (x .m)) (x .list .now) (x .incoming) e (x .out .way) (omega arith) (omega arith) (c .before .before .before .before .before .before .exists .ensures) (c .before .before .before .before .before .if2 .left) (c .before .before .before .before .turn-ok .ensures) (c .before .before .before .if3 .left)
+    (λ q. let z = rw (c .before .before .number .ensures) at q in omega (arith, leb-true, ltb-true)) (λ q. let z = rw (c .before .before .number .ensures) at q in omega (arith, leb-false, ltb-false))
 
 pub falls-spec : {M : Type 1} → statement M
 falls-spec =

@@ -1,4 +1,4 @@
--- The four directions upward: what was passed over does not fall.  Assumes nothing.
+-- The four directions upward: what was passed over does not fall. Assumes nothing.
 use Prim.Native.Nat.{ℕ, _+_, _*_, _-_, _≤_, _<_}
 use mathlib.Core.Path.{_≡_, _∙_}
 use mathlib.Core.Bool.{false}

@@ -6,7 +6,7 @@ use native.Mathlib.Omega.{arith}
 use lib.ListN.{length}
 use lib.Dec.{ltb}
 use borrow.Author.Needs.{needs}
-use Rattle.route.specs.Channels.{channels}
+use Rattle.route.specs.Numbers.{channels}
 use Rattle.route.specs.Check.{first-after}
 use Rattle.route.specs.Coded.{meant}
 use Rattle.route.proofs.Nodes.{words-fit}
@@ -15,7 +15,7 @@ use Rattle.route.proofs.checks.first_pair.Statement.{statement}
 use Rattle.route.proofs.checks.first_pair.Tie as tie
 
 abbrev Inv-loop : tie.InvT-loop
-Inv-loop m list incoming₀ incoming = (incoming ≤ length list) × ((j : ℕ) → j < incoming → ltb (first-after (meant m) list j) (channels (meant m)) ≡ false)
+Inv-loop m list incoming₀ incoming = (incoming ≤ length list) × ((j : ℕ) → j < incoming → ltb (first-after (meant m) list j) (channels (m .columns) (m .rows)) ≡ false)
 
 abbrev μ-loop : tie.MeasureT-loop
 μ-loop m list incoming₀ incoming = length list - incoming

@@ -2,6 +2,7 @@
 use native.Mathlib.Nat.{mod-lt, div-lt-iff-lt-mul}
 use native.Mathlib.Omega.{arith}
 use borrow.Author.Needs.{needs}
+use Rattle.route.proofs.Nodes.{place-is}
 use Rattle.route.proofs.places.place_of.Statement.{statement}
 use Rattle.route.proofs.places.place_of.Tie as tie
 
@@ -21,7 +22,7 @@ at-requires : tie.Need-at-requires
 at-requires c κs = search needs
 
 returns : tie.Need-returns
-returns c = search needs
+returns c = place-is (c .before .args .columns) (c .before .args .node) (c .at .ensures) (omega arith) (omega arith)
 
 pub place-of-spec : {M : Type 1} → statement M
 place-of-spec = tie.close (tie.spec rem-column cast-column div-row cast-row at-requires returns)

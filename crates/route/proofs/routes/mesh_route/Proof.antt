@@ -74,7 +74,7 @@ returns-4 : tie.Need-returns-4
 returns-4 c = refused-11 _ _ _ _ _ _ (c .before .before .before .before .before .before .before .before .before .before .bad-mesh .ensures) (omega arith) (c .before .before .before .before .before .before .before .before .if2 .left) (c .before .before .before .before .before .before .before .mesh-of .ensures) (c .before .before .before .before .before .before .place-of .ensures) (c .before .before .before .before .before .arrives .ensures) (c .before .before .before .place-of2 .ensures) (c .before .before .before .before .if3 .left) (c .before .before .outputs-at .ensures) (omega arith) (c .refused4 .ensures)
 
 returns-5 : tie.Need-returns-5
-returns-5 c = given _ _ _ _ _ _ (c .before .before .before .before .before .before .before .before .before .bad-mesh .ensures) (omega arith) (c .before .before .before .before .before .before .before .if2 .left) (c .before .before .before .before .before .before .mesh-of .ensures) (c .before .before .before .before .before .place-of .ensures) (c .before .before .before .before .arrives .ensures) (c .before .before .place-of2 .ensures) (c .before .before .before .if3 .left) (c .before .outputs-at .ensures) (omega arith)
+returns-5 c = given _ _ _ _ _ _ (c .before .before .before .before .before .before .before .before .before .bad-mesh .ensures) (omega arith) (c .before .before .before .before .before .before .before .if2 .left) (c .before .before .before .before .before .before .mesh-of .ensures) (c .before .before .before .before .before .place-of .ensures) (c .before .before .before .before .arrives .ensures) (c .before .before .place-of2 .ensures) (c .before .before .before .if3 .left) (c .before .outputs-at .ensures) (omega arith) (omega arith) (omega arith)
 
 pub mesh-route-spec : {M : Type 1} → statement M
 mesh-route-spec =
