@@ -16,8 +16,14 @@ enum {
     BAD_RULE = 2,
     BAD_NODE = 3,
     BAD_ARRIVAL = 4,
+    SAME_NODE = 5,
+    BAD_FLITS = 6,
     BAD_SIZE = 7,
+    NOT_NOW = 8,
+    BAD_MEMORY = 9,
+    FULL = 10,
     NO_PATH = 11,
+    BAD_MOVE = 13,
     NOT_RISING = 14
 };
 

@@ -42,7 +42,7 @@ one-place n t h =
     }
 
 -- ---- nodes
-place-inside : (m : Mesh) (k : ℕ) → k < m .columns * m .rows → Inside m (place-of (m .columns) k)
+pub place-inside : (m : Mesh) (k : ℕ) → k < m .columns * m .rows → Inside m (place-of (m .columns) k)
 place-inside m k h =
     let pos : 0 < m .columns = positive (m .columns) (m .rows) h in
     (mod-lt k pos, div-lt-iff-lt-mul pos .1 (omega arith))

@@ -16,11 +16,29 @@ pub const BAD_NODE: u8 = 3;
 // The arrival is above 4, or from off the mesh.
 pub const BAD_ARRIVAL: u8 = 4;
 
+// A packet's source is its destination.
+pub const SAME_NODE: u8 = 5;
+
+// A packet's flits are not 1 to 200.
+pub const BAD_FLITS: u8 = 6;
+
 // Lent memory has a wrong size.
 pub const BAD_SIZE: u8 = 7;
 
+// The step rules do not allow the move now.
+pub const NOT_NOW: u8 = 8;
+
+// Memory is out of range.
+pub const BAD_MEMORY: u8 = 9;
+
+// No record is empty.
+pub const FULL: u8 = 10;
+
 // No shortest path is legal.
 pub const NO_PATH: u8 = 11;
+
+// A move names no record, kind, direction or channel.
+pub const BAD_MOVE: u8 = 13;
 
 // A numbering does not rise.
 pub const NOT_RISING: u8 = 14;

@@ -1,0 +1,55 @@
+-- A word of the list is a word of one section, and a store in the list a store in one section: by the laws of take and drop. Assumes nothing.
+use Prim.Native.Nat.{ℕ, _+_, _-_, _<_}
+use mathlib.Core.Path.{_≡_, refl, sym, _∙_}
+use mathlib.Core.List.{List}
+use native.Mathlib.Omega.{arith}
+use lib.ListN.{take, drop, set, getD}
+use lib.Seq.{getD-take, getD-drop, take-set-lt, take-set-le, drop-set-lt, drop-set-add}
+use Rattle.wormhole.specs.Memory.{Sections, sections, owner-of, holds-of, next-of, own, hold, link, put, drain, fill}
+
+module _ (n k : ℕ) (w : List ℕ) where
+  pub owner-at : k < n → getD w k 0 ≡ owner-of (sections n w) k
+  unfolding sections
+  owner-at h = sym (getD-take n w k 0 h)
+
+  pub holds-at : k < n → getD w (n + k) 0 ≡ holds-of (sections n w) k
+  unfolding sections
+  holds-at h = sym (getD-take n (drop n w) k 0 h ∙ getD-drop n w k 0)
+
+  pub next-at : getD w (n + n + k) 0 ≡ next-of (sections n w) k
+  unfolding sections
+  next-at = sym (getD-drop (n + n) w k 0)
+
+  module _ (v : ℕ) (h : k < n) where
+    pub own-at : sections n (set w k v) ≡ own (sections n w) k v
+    unfolding sections own
+    own-at = rw (take-set-lt n w k v h, drop-set-lt n w k v h, drop-set-lt (n + n) w k v (omega arith)) refl
+
+    pub hold-at : sections n (set w (n + k) v) ≡ hold (sections n w) k v
+    unfolding sections hold
+    hold-at =
+        rw
+        (take-set-le n w (n + k) v (omega arith), drop-set-add n w k v, take-set-lt n (drop n w) k v h, drop-set-lt (n + n) w (n + k) v (omega arith))
+        refl
+
+    pub link-at : sections n (set w (n + n + k) v) ≡ link (sections n w) k v
+    unfolding sections link
+    link-at =
+        let e : n + n + k ≡ n + (n + k) = omega arith in
+        let held : take n (drop n (set w (n + n + k) v)) ≡ take n (drop n w) =
+        rw (e, drop-set-add n w (n + k) v, take-set-le n (drop n w) (n + k) v (omega arith)) refl in
+        rw (take-set-le n w (n + n + k) v (omega arith), held, drop-set-add (n + n) w k v) refl
+
+-- ---- what the stores of the code come to
+module _ (s : Sections) (k : ℕ) where
+  pub putting : {s₁ s₂ s₃ : Sections} (o h x : ℕ) → s₁ ≡ own s k o → s₂ ≡ hold s₁ k h → s₃ ≡ link s₂ k x → s₃ ≡ put s k o h x
+  unfolding put
+  putting o h x e f g = rw (g, f, e) refl
+
+  pub draining : {t : Sections} (h : ℕ) → h ≡ holds-of s k → t ≡ hold s k (h - 1) → t ≡ drain s k
+  unfolding drain
+  draining h e f = rw (f, e) refl
+
+  pub filling : {t : Sections} (h : ℕ) → h ≡ holds-of s k → t ≡ hold s k (h + 1) → t ≡ fill s k
+  unfolding fill
+  filling h e f = rw (f, e) refl

@@ -1,0 +1,6 @@
+-- What the calls of the wormhole machine promise, in this order: its memory, when memory is in range, the step rules, the calls.
+pub mod Memory
+pub mod Range
+pub mod Steps
+pub mod Calls
+pub mod Coded

@@ -1,0 +1,26 @@
+// The wormhole machine: packets of flits on a mesh of one-flit channels, over memory that the caller
+// lends.
+//
+// `mesh_reset` empties the memory, `mesh_offer` puts a packet at its source, `mesh_move` moves one
+// flit by one channel. Each looks at all of the memory first and refuses what is out of range; then
+// a move is served by the step rules, on any memory, whoever left it so.
+mod eats;
+mod feeds;
+mod follows;
+mod leads;
+mod moves;
+mod offers;
+mod ranges;
+mod records;
+mod releases;
+mod resets;
+mod sizes;
+mod steps;
+mod surveys;
+mod words;
+
+pub use moves::mesh_move;
+pub use offers::Offered;
+pub use offers::mesh_offer;
+pub use records::Record;
+pub use resets::mesh_reset;
