@@ -72,8 +72,9 @@ Checked mesh_check(uint8_t columns, uint8_t rows, uint8_t rule, const uint16_t *
  *   owner  0 for a free channel, else 1 + the record that holds it
  *   holds  how many flits are in the channel, 0 or 1
  *   next   0, or 1 + the channel that the same packet took after this one
- * A call looks at all of this memory first and refuses what is out of range by MESH_BAD_MEMORY. With
- * any refusal it leaves words and records as they were. `length` counts words, `count` records. */
+ * An offer or a move looks at all of this memory first and refuses what is out of range by
+ * MESH_BAD_MEMORY. With any refusal words and records stay as they were. `length` counts words,
+ * `count` records. */
 typedef struct {
     uint8_t live;         /* 1, or 0 for an empty record, which is all zero */
     uint16_t source;      /* the packet's nodes */

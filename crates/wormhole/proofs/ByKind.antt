@@ -1,5 +1,5 @@
 -- A move by its kind, and the call that makes it: each return from the tests before it. Assumes nothing.
-use Prim.Native.Nat.{ℕ, zero, suc, _≤_, _<_}
+use Prim.Native.Nat.{ℕ, zero, suc, _+_, _≤_, _<_}
 use mathlib.Core.Path.{_≡_, refl, sym, _∙_, ap, subst}
 use mathlib.Core.Bool.{Bool, true, false, not, _&&_}
 use mathlib.Core.List.{List}
@@ -14,13 +14,12 @@ use Rattle.route.specs.Numbers.{channels, rule-of}
 use Rattle.route.specs.Channels.{is-channel}
 use Rattle.route.specs.Coded.{meant, Roomy}
 use Rattle.route.proofs.Promises.{channel-is, refuses}
-use Rattle.wormhole.specs.declared.moves.Moved.{Moved}
 use Rattle.wormhole.specs.declared.records.Record.{Record}
-use Rattle.wormhole.specs.Memory.{Net, depth, net, Sections, sections, joined}
+use Rattle.wormhole.specs.Memory.{Net, depth, net, Sections, owner-of, sections, joined}
 use Rattle.wormhole.specs.Range.{every, at-most, names, words-fit, record-fits}
-use Rattle.wormhole.specs.Steps.{Stepped, stepped, may-lead, lead, may-follow, follow, may-feed, feed, may-eat, eat, known, may, act}
+use Rattle.wormhole.specs.Steps.{Stepped, stepped, may-lead, lead, can-follow, may-follow, follow, may-feed, feed, may-eat, eat, known, may, act}
 use Rattle.wormhole.specs.Calls.{bad-memory, allowed}
-use Rattle.wormhole.specs.Coded.{sides, buffered, Fitting, Memory, Tried, tried, try}
+use Rattle.wormhole.specs.Coded.{sides, buffered, Fitting, Memory, tried, try}
 use Rattle.wormhole.proofs.Every.{both}
 use Rattle.wormhole.proofs.AnyRule.{same-kinds, same-record}
 use Rattle.wormhole.proofs.Refusing.{Sized, fitting}
@@ -85,9 +84,9 @@ module _ (N : Net) (s : Sections) (i : ℕ) (r : Record) (k d : ℕ) where
     unfolding may
     allowed-follow l h = rw (eq-eqb (r .live) 1 l, e) h
 
-    pub may-as-follow : may N s i r kind k d ≡ true → may-follow N s i k ≡ true
-    unfolding may
-    may-as-follow h = rw e at h
+    pub may-as-follow : may N s i r kind k d ≡ true → can-follow N s k ≡ true
+    unfolding may may-follow
+    may-as-follow h = both (eqb (owner-of s k) (i + 1)) (can-follow N s k) (rw e at h) .1
 
     pub act-as-follow : {a : Stepped} → a ≡ follow s r k → a ≡ act N s i r kind k d
     unfolding act
@@ -193,18 +192,18 @@ module _ (C R rule : ℕ) (w : List ℕ) (fit : Bool) (records : ℕ) (r : Recor
     named : a ≡ ltb i records && known (net C R rule .mesh) kind k d
     named = ea ∙ ap (λ (b : Bool). ltb i records && b) (same-kinds C R rule kind k d)
 
-    pub try-unknown : not a ≡ true → tried 13 w r ≡ try C R rule w fit records r i kind k d
+    pub try-unknown : {j : ℕ} → j ≡ 13 → not a ≡ true → tried j w r ≡ try C R rule w fit records r i kind k d
     unfolding try
-    try-unknown h = rw (sym hc ∙ z, sym named ∙ not-true a h) refl
+    try-unknown ej h = rw (ej, sym hc ∙ z, sym named ∙ not-true a h) refl
 
     module _ (h : not a ≡ false) (m : Mesh) (em : m ≡ ruled (rule-of rule) C R 0) {b : Bool}
         (eb : b ≡ allowed (buffered m) (sections (channels (m .columns) (m .rows)) w) i r kind k d) where
       asked : b ≡ allowed (net C R rule) (sections (channels C R) w) i r kind k d
       asked = rw em at eb
 
-      pub try-not-now : not b ≡ true → tried 8 w r ≡ try C R rule w fit records r i kind k d
+      pub try-not-now : {j : ℕ} → j ≡ 8 → not b ≡ true → tried j w r ≡ try C R rule w fit records r i kind k d
       unfolding try
-      try-not-now t = rw (sym hc ∙ z, sym named ∙ not-false a h, sym asked ∙ not-true b t) refl
+      try-not-now ej t = rw (ej, sym hc ∙ z, sym named ∙ not-false a h, sym asked ∙ not-true b t) refl
 
       pub try-done : (v : List ℕ) (q : Record) → not b ≡ false
           → stepped (sections (channels (m .columns) (m .rows)) v) q ≡ act (buffered m) (sections (channels (m .columns) (m .rows)) w) i r kind k d
@@ -213,7 +212,3 @@ module _ (C R rule : ℕ) (w : List ℕ) (fit : Bool) (records : ℕ) (r : Recor
       try-done v q t e =
           let made : stepped (sections (channels C R) v) q ≡ act (net C R rule) (sections (channels C R) w) i r kind k d = rw em at e in
           rw (sym hc ∙ z, sym named ∙ not-false a h, sym asked ∙ not-false b t, sym made, rejoined (channels C R) v) refl
-
--- the answer of a call that refuses by a number
-pub refused-by : (c : ℕ) {o : Moved} {j : ℕ} {r : Record} (w : List ℕ) (t : Tried) → o ≡ record { refusal = j; packet = r } → j ≡ c → tried c w r ≡ t → tried (o .refusal) w (o .packet) ≡ t
-refused-by c w t e ej h = rw (e, ej) h

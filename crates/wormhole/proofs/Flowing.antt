@@ -18,7 +18,7 @@ use Rattle.route.specs.Channels.{far}
 use Rattle.route.specs.Coded.{meant}
 use Rattle.wormhole.specs.declared.records.Record.{Record}
 use Rattle.wormhole.specs.Memory.{depth, Sections, sections, owner-of, holds-of, next-of, hold, drain, fill, none, anew, named}
-use Rattle.wormhole.specs.Steps.{stepped, leave, head, goal, room, may-follow, follow, may-feed, feed, may-eat, bite, finish, eat}
+use Rattle.wormhole.specs.Steps.{stepped, leave, head, goal, room, can-follow, may-follow, follow, may-feed, feed, may-eat, bite, finish, eat}
 use Rattle.wormhole.specs.Coded.{built, laid, Packet, Memory, finished}
 use Rattle.wormhole.proofs.Every.{both}
 use Rattle.wormhole.proofs.Serving.{named-none, named-some, names-low, next-names, tells}
@@ -72,20 +72,19 @@ module _ (m : Coded) (n : ℕ) (w : List ℕ) (hn : n ≡ channels (m .columns) 
       owned = eq-eqb (owner-of s k) (i + 1) (rw (eo, hn) at ours)
 
       pub follow-none : h ≡ 0 → false ≡ may-follow (built m) s i k
-      unfolding may-follow
+      unfolding may-follow can-follow
       follow-none z = rw (owned, lt-leb 1 (holds-of s k) (omega (arith, rw hn at eh))) refl
 
       pub follow-next : (h ≡ 0 → ⊥) → (x : ℕ) (b : Bool) → x ≡ next-of (sections n w) k → b ≡ room depth (sections n w) x → b ≡ may-follow (built m) s i k
-      unfolding may-follow
+      unfolding may-follow can-follow
       follow-next z x b ex eb = rw (owned, le-leb 1 (holds-of s k) (omega (arith, rw hn at eh))) (rw (ex, hn) at eb)
 
-  module _ (i k : ℕ) (may : may-follow (built m) s i k ≡ true) where
+  module _ (k : ℕ) (can : can-follow (built m) s k ≡ true) where
     follow-tells : (1 ≤ holds-of s k) × Open s (next-of s k)
-    unfolding may-follow
+    unfolding can-follow
     follow-tells =
-        let e = both (eqb (owner-of s k) (i + 1)) (leb 1 (holds-of s k) && room depth s (next-of s k)) may .1 in
-        let f = both (leb 1 (holds-of s k)) (room depth s (next-of s k)) e in
-        (leb-true 1 (holds-of s k) (f .0), opened s (next-of s k) (f .1))
+        let e = both (leb 1 (holds-of s k)) (room depth s (next-of s k)) can in
+        (leb-true 1 (holds-of s k) (e .0), opened s (next-of s k) (e .1))
 
     pub follow-flit : 0 < holds-of (sections n w) k
     follow-flit = rw hn (follow-tells .0)

@@ -1,6 +1,6 @@
 -- The proofs that belong to no one function, each after those that it rests on. Walks is for the functions over the lent records, which are
 -- walked by hand; what stands after it is for the others.
-mod Walks
+pub mod Walks
 mod Data
 mod Every
 mod AnyRule
@@ -14,3 +14,4 @@ mod Serving
 mod Leading
 mod Flowing
 mod ByKind
+pub mod Published

@@ -19,11 +19,13 @@ pub record Left (A : Type 0) : Type 0 where
   pub words : List ℕ
   pub records : List Record
 
-abbrev pub offered : ℕ → ℕ → Offered
-offered k i = record { refusal = k; «record» = i }
-
+-- this answer, these words and these records
 abbrev pub left : {A : Type 0} → A → List ℕ → List Record → Left A
 left a w rs = record { answer = a; words = w; records = rs }
+
+-- the answer of an offer: a refusal and a record
+abbrev pub offered : ℕ → ℕ → Offered
+offered k i = record { refusal = k; «record» = i }
 
 -- how many words a mesh of C columns and R rows needs
 abbrev pub needed : ℕ → ℕ → ℕ
@@ -43,7 +45,8 @@ bad-memory C R rule words records fits = unless (λ k. k) (bad-size C R rule wor
 abbrev pub fits : ℕ → ℕ → ℕ → List ℕ → List Record → Bool
 fits C R rule w rs = in-range (net C R rule) (sections (channels C R) w) rs
 
--- ---- reset. It names no rule, and any will do
+-- ---- reset
+-- all words 0 and all records empty; it names no rule, and any will do
 unfoldable pub reset : ℕ → ℕ → List ℕ → List Record → Left ℕ
 reset C R w rs =
     unless (λ k. left k w rs) (bad-size C R 0 (length w) (length rs)) (left 0 (replicate (length w) 0) (replicate (length rs) none))

@@ -99,6 +99,7 @@ pub record Tried : Type 0 where
   pub words : List ℕ
   pub packet : Record
 
+-- this refusal, these words and this record
 abbrev pub tried : ℕ → List ℕ → Record → Tried
 tried c w r = record { refusal = c; words = w; packet = r }
 

@@ -18,6 +18,7 @@ pub record Stepped : Type 0 where
   pub words : Sections
   pub packet : Record
 
+-- these words and this record
 abbrev pub stepped : Sections → Record → Stepped
 stepped s r = record { words = s; packet = r }
 
@@ -27,7 +28,8 @@ unfoldable pub release : Sections → Record → ℕ → ℕ → Stepped
 release s r k front =
     stepped (put s k 0 0 0) (anew r (r .waiting) (r .eaten) (next-of s k) (pick (eqb front (k + 1) && eqb (next-of s k) 0) 0 (r .front)))
 
--- that is so if it is the rear, no flit is at the source and none is left in it; `front` is the front before the move
+-- that is so if it is the rear, no flit is at the source and none is left in it, as with one flit a channel there never is (proofs/Published);
+-- `front` is the front before the move
 unfoldable pub leave : Sections → Record → ℕ → ℕ → Stepped
 leave s r k front =
     pick (eqb (r .rear) (k + 1) && (eqb (r .waiting) 0 && eqb (holds-of s k) 0)) (release s r k front) (stepped s r)
@@ -53,6 +55,7 @@ ready s r = named (r .front) (leb 1 (r .waiting)) (λ k. leb 1 (holds-of s k))
 abbrev pub target : Mesh → Record → ℕ → ℕ
 target m r d = channel (m .columns) (head m r) (dir-of d)
 
+-- allowed: there is a flit, not at the destination, the direction is in the routing answer, and the channel ahead is free
 unfoldable pub may-lead : Net → Sections → Record → ℕ → Bool
 may-lead N s r d =
     let m = N .mesh in
@@ -72,6 +75,7 @@ abbrev pub advance : Sections → ℕ → Record → ℕ → ℕ → Stepped
 advance s i r t k =
     leave (claim (link (drain s k) k (t + 1)) t i) (anew r (r .waiting) (r .eaten) (r .rear) (t + 1)) k (k + 1)
 
+-- done: from the source or from the front
 unfoldable pub lead : Net → Sections → ℕ → Record → ℕ → Stepped
 lead N s i r d = let t = target (N .mesh) r d in named (r .front) (start s i r t) (advance s i r t)
 
@@ -80,20 +84,29 @@ lead N s i r d = let t = target (N .mesh) r d in named (r .front) (start s i r t
 abbrev pub room : ℕ → Sections → ℕ → Bool
 room depth s x = named x false (λ k. ltb (holds-of s k) depth)
 
-unfoldable pub may-follow : Net → Sections → ℕ → ℕ → Bool
-may-follow N s i k = eqb (owner-of s k) (i + 1) && (leb 1 (holds-of s k) && room (N .depth) s (next-of s k))
+-- channel k holds a flit, and its next has room
+unfoldable pub can-follow : Net → Sections → ℕ → Bool
+can-follow N s k = leb 1 (holds-of s k) && room (N .depth) s (next-of s k)
 
+-- allowed: that, and the channel is packet i's
+unfoldable pub may-follow : Net → Sections → ℕ → ℕ → Bool
+may-follow N s i k = eqb (owner-of s k) (i + 1) && can-follow N s k
+
+-- done: the flit goes from k to its next
 unfoldable pub follow : Sections → Record → ℕ → Stepped
 follow s r k = leave (fill (drain s k) (next-of s k - 1)) r k (r .front)
 
 -- ---- 2 feed
+-- allowed: a flit is at the source, and the rear has room
 unfoldable pub may-feed : Net → Sections → Record → Bool
 may-feed N s r = leb 1 (r .waiting) && room (N .depth) s (r .rear)
 
+-- done: one flit goes from the source into the rear
 unfoldable pub feed : Sections → Record → Stepped
 feed s r = stepped (fill s (r .rear - 1)) (anew r (r .waiting - 1) (r .eaten) (r .rear) (r .front))
 
 -- ---- 3 eat
+-- allowed: the front leads to the destination and holds a flit, and not all flits are eaten
 unfoldable pub may-eat : Net → Sections → Record → Bool
 may-eat N s r =
     let m = N .mesh in
@@ -107,6 +120,7 @@ bite r = anew r (r .waiting) (r .eaten + 1) (r .rear) (r .front)
 unfoldable pub finish : Record → Stepped → Stepped
 finish r a = pick (eqb (r .eaten) (r .flits)) (stepped (a .words) none) a
 
+-- done: one flit leaves the front for the destination
 unfoldable pub eat : Sections → Record → Stepped
 eat s r = let k = r .front - 1 in finish (bite r) (leave (drain s k) (bite r) k (r .front))
 

@@ -16,7 +16,7 @@ ghost use lib.ListN.{length};
 ghost use Rattle.route.specs.Numbers.{channels};
 ghost use Rattle.route.specs.Coded.{Roomy};
 ghost use Rattle.wormhole.specs.Memory.{depth, sections};
-ghost use Rattle.wormhole.specs.Steps.{stepped, room, may-follow, follow};
+ghost use Rattle.wormhole.specs.Steps.{stepped, room, can-follow, may-follow, follow};
 ghost use Rattle.wormhole.specs.Coded.{Memory, built, laid};
 
 // Does a word name a channel that has room for a flit?
@@ -48,11 +48,11 @@ pub fn may_follow(words: &[u16], m: Mesh, i: u8, k: u16) -> bool
 }
 
 // A flit goes from channel k to the packet's next. Returns the packet's record.
-pub fn follow(words: &mut [u16], m: Mesh, i: u8, r: Record, k: u16) -> Record
+pub fn follow(words: &mut [u16], m: Mesh, r: Record, k: u16) -> Record
     requires { ⌜ Roomy m ⌝ }
     requires { ⌜ Memory m (now words) ⌝ }
     requires { ⌜ k < channels (m .columns) (m .rows) ⌝ }
-    requires { ⌜ may-follow (built m) (laid m (now words)) i k ≡ true ⌝ }
+    requires { ⌜ can-follow (built m) (laid m (now words)) k ≡ true ⌝ }
     ensures { λ s. ⌜ stepped (laid m (now (words .exit))) s
         ≡ follow (laid m (now (words .entry))) r k ⌝ }
 {

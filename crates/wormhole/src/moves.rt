@@ -22,13 +22,6 @@ pub struct Moved {
     pub packet: Record,
 }
 
-// The answer of a call that refuses.
-fn refused(refusal: u8, packet: Record) -> Moved
-    ensures { λ o. ⌜ o ≡ record { refusal = refusal; packet = packet } ⌝ }
-{
-    Moved { refusal, packet }
-}
-
 // The move, on the words and its packet's record, where it is known whether the records fit.
 fn attempt(
     words: &mut [u16],
@@ -49,14 +42,20 @@ fn attempt(
 {
     let refusal = bad_memory(words, columns, rows, rule, fit, count);
     if refusal != 0 {
-        return refused(refusal, r);
+        return Moved { refusal, packet: r };
     }
     if !is_known(columns, rows, count, record, kind, channel, direction) {
-        return refused(BAD_MOVE, r);
+        return Moved {
+            refusal: BAD_MOVE,
+            packet: r,
+        };
     }
     let m = mesh_of(columns, rows, rule);
     if !may_move(words, m, record, r, kind, channel, direction) {
-        return refused(NOT_NOW, r);
+        return Moved {
+            refusal: NOT_NOW,
+            packet: r,
+        };
     }
     let packet = act(words, m, record, r, kind, channel, direction);
     Moved { refusal: 0, packet }

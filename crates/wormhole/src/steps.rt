@@ -103,7 +103,7 @@ pub fn act(
         return lead(words, m, i, r, direction);
     }
     if kind == FOLLOW {
-        return follow(words, m, i, r, channel);
+        return follow(words, m, r, channel);
     }
     if kind == FEED {
         return feed(words, m, r);
