@@ -20,13 +20,13 @@ module _ (j k : Rule) (C R : ℕ) where
   existing n (go horiz s) = refl
   existing n (go vert s) = refl
 
-  pub same-channels : is-channel (ruled j C R 0) ≡ is-channel (ruled k C R 0)
+  same-channels : is-channel (ruled j C R 0) ≡ is-channel (ruled k C R 0)
   unfolding is-channel
   same-channels i x = ltb x (channels C R) && existing (start C x) (way x) i
 
 module _ (C R rule : ℕ) where
   -- the channels that words and records may name
-  pub same-names : (x : ℕ) → names (sides C R) x ≡ names (net C R rule .mesh) x
+  same-names : (x : ℕ) → names (sides C R) x ≡ names (net C R rule .mesh) x
   same-names x = ap (λ (test : ℕ → Bool). named x true test) (same-channels xy (rule-of rule) C R)
 
   pub same-words : (count : ℕ) (s : Sections) → words-fit (buffered (sides C R)) count s ≡ words-fit (net C R rule) count s

@@ -178,7 +178,7 @@ module _ (C R rule : ℕ) (w : List ℕ) (fit : Bool) (records : ℕ) {c : ℕ}
 
 -- ---- the call
 -- sections put together again
-pub rejoined : (n : ℕ) (w : List ℕ) → joined (sections n w) ≡ w
+rejoined : (n : ℕ) (w : List ℕ) → joined (sections n w) ≡ w
 unfolding joined sections
 rejoined n w = rw (← drop-drop n n w, take-append-drop n (drop n w), take-append-drop n w) refl
 

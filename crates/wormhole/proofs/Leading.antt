@@ -19,14 +19,14 @@ use Rattle.route.specs.Coded.{meant}
 use Rattle.route.proofs.Promises.{start-inside, hop-inside, node-below, channel-below, channel-is}
 use Rattle.wormhole.specs.declared.records.Record.{Record}
 use Rattle.wormhole.specs.Memory.{Sections, sections, owner-of, holds-of, put, link, drain, anew}
-use Rattle.wormhole.specs.Steps.{Stepped, stepped, leave, head, arrival, goal, ready, target, may-lead, claim, start as begin, advance, lead}
+use Rattle.wormhole.specs.Steps.{Stepped, stepped, leave, head, arrival, goal, ready, ahead, may-lead, claim, start as begin, advance, lead}
 use Rattle.wormhole.specs.Coded.{built, laid}
 use Rattle.wormhole.proofs.Every.{both}
 use Rattle.wormhole.proofs.Serving.{named-none, named-some, a-channel, Told}
 
 -- ---- where it is
 -- an arrival by a direction
-pub by-way : (d : ℕ) → d < 4 → arrival-of d ≡ going (dir-of d)
+by-way : (d : ℕ) → d < 4 → arrival-of d ≡ going (dir-of d)
 by-way zero h = refl
 by-way (suc zero) h = refl
 by-way (suc (suc zero)) h = refl
@@ -116,17 +116,21 @@ module _ (member : Dir → Bool) where
       n : ℕ
       n = bit (member north)
 
-      sum : values member ≡ w + 2 * e + 4 * s + 8 * n
-      sum = omega (arith, valued 1 (member west), valued 2 (member east), valued 4 (member south), valued 8 (member north))
+      sum : (values member ≡ w + 2 * e + 4 * s + 8 * n) × ((w ≤ 1) × (e ≤ 1)) × ((s ≤ 1) × (n ≤ 1))
+      sum = (
+        omega (arith, valued 1 (member west), valued 2 (member east), valued 4 (member south), valued 8 (member north)),
+        (bit-low (member west), bit-low (member east)),
+        (bit-low (member south), bit-low (member north)),
+      )
 
       at : (v k : ℕ) (b : Bool) → v / k % 2 ≡ bit b → eqb (v / k % 2) 1 ≡ b
       at v k b q = rw q (bit-is b)
 
       go : (d : ℕ) → d < 4 → eqb (values member / 2 ^ d % 2) 1 ≡ member (dir-of d)
-      go zero h = at (values member) 1 (member west) (omega (arith, sum, bit-low (member west), bit-low (member east), bit-low (member south), bit-low (member north)))
-      go (suc zero) h = at (values member) 2 (member east) (omega (arith, sum, bit-low (member west), bit-low (member east), bit-low (member south), bit-low (member north)))
-      go (suc (suc zero)) h = at (values member) 4 (member south) (omega (arith, sum, bit-low (member west), bit-low (member east), bit-low (member south), bit-low (member north)))
-      go (suc (suc (suc zero))) h = at (values member) 8 (member north) (omega (arith, sum, bit-low (member west), bit-low (member east), bit-low (member south), bit-low (member north)))
+      go zero h = let q = sum in at (values member) 1 (member west) (omega arith)
+      go (suc zero) h = let q = sum in at (values member) 2 (member east) (omega arith)
+      go (suc (suc zero)) h = let q = sum in at (values member) 4 (member south) (omega arith)
+      go (suc (suc (suc zero))) h = let q = sum in at (values member) 8 (member north) (omega arith)
       go (suc (suc (suc (suc d)))) h = absurd (omega arith)
 
 in-outputs : (m : Mesh) (n : Place) (a : Arrival) (t : Place) (d : ℕ) → d < 4 → eqb (outputs m n a t / 2 ^ d % 2) 1 ≡ not (same-place n t) && answer m n a t (dir-of d)
@@ -151,8 +155,8 @@ module _ (m : Coded) (r : Record) (d : ℕ) (p : Place) (i : Inside (meant m) p)
   node-low t = omega (arith, node-below (meant m) p i, t .few)
 
   module _ (t : ℕ) (et : t ≡ channel (m .columns) p (dir-of d)) where
-    pub ahead : p ≡ head (meant m) r → t ≡ target (meant m) r d
-    ahead e = rw e at et
+    pub ahead-is : p ≡ head (meant m) r → t ≡ ahead (meant m) r d
+    ahead-is e = rw e at et
 
     pub ahead-low : t < channels (m .columns) (m .rows)
     ahead-low = rw et (channel-below (meant m) p (dir-of d) i)
@@ -189,11 +193,11 @@ module _ (m : Coded) (r : Record) (d n : ℕ) (w : List ℕ) (hn : n ≡ channel
 
       pub lead-shut : not b ≡ true → false ≡ may-lead (built m) s r d
       unfolding may-lead
-      lead-shut h = rw is-ready (sym (first-two away given (eqb (owner-of s (target (meant m) r d)) 0) (sym eb ∙ not-true b h)))
+      lead-shut h = rw is-ready (sym (first-two away given (eqb (owner-of s (ahead (meant m) r d)) 0) (sym eb ∙ not-true b h)))
 
-      pub lead-free : {t o : ℕ} → not b ≡ false → t ≡ target (meant m) r d → o ≡ owner-of (sections n w) t → eqb o 0 ≡ may-lead (built m) s r d
+      pub lead-free : {t o : ℕ} → not b ≡ false → t ≡ ahead (meant m) r d → o ≡ owner-of (sections n w) t → eqb o 0 ≡ may-lead (built m) s r d
       unfolding may-lead
-      lead-free h et eo = rw (is-ready, eo, et, hn) (sym (last-one away given (eqb (owner-of s (target (meant m) r d)) 0) (sym eb ∙ not-false b h)))
+      lead-free h et eo = rw (is-ready, eo, et, hn) (sym (last-one away given (eqb (owner-of s (ahead (meant m) r d)) 0) (sym eb ∙ not-false b h)))
 
 -- ---- it takes it
 pub claiming : (s : Sections) {s′ : Sections} (t i : ℕ) {o h x : ℕ} → s′ ≡ put s t o h x → o ≡ i + 1 → h ≡ 1 → x ≡ 0 → s′ ≡ claim s t i
@@ -223,12 +227,12 @@ module _ (m : Coded) (i : ℕ) (r : Record) (d n : ℕ) (w v : List ℕ) (q : Re
     pub lead-flit : (r .front ≡ 0 → ⊥) → 0 < holds-of (sections n w) (r .front - 1)
     lead-flit e = rw hn (leb-true 1 (holds-of t₀ (r .front - 1)) (ready-front t₀ r (holds-of t₀ (r .front - 1)) e refl ∙ flit-ready))
 
-  module _ (t : ℕ) (et : t ≡ target (meant m) r d) where
+  module _ (t : ℕ) (et : t ≡ ahead (meant m) r d) where
     pub led-out : r .front ≡ 0 → stepped (sections n v) q ≡ begin (sections n w) i r t → stepped (laid m v) q ≡ lead (built m) t₀ i r d
     unfolding lead
-    led-out e h = rw (hn, et) at h ∙ sym (named-none (begin t₀ i r (target (meant m) r d)) (advance t₀ i r (target (meant m) r d)) (r .front) e)
+    led-out e h = rw (hn, et) at h ∙ sym (named-none (begin t₀ i r (ahead (meant m) r d)) (advance t₀ i r (ahead (meant m) r d)) (r .front) e)
 
     pub led-on : (r .front ≡ 0 → ⊥) → stepped (sections n v) q ≡ advance (sections n w) i r t (r .front - 1)
         → stepped (laid m v) q ≡ lead (built m) t₀ i r d
     unfolding lead
-    led-on e h = rw (hn, et) at h ∙ sym (named-some (begin t₀ i r (target (meant m) r d)) (advance t₀ i r (target (meant m) r d)) (r .front) e)
+    led-on e h = rw (hn, et) at h ∙ sym (named-some (begin t₀ i r (ahead (meant m) r d)) (advance t₀ i r (ahead (meant m) r d)) (r .front) e)

@@ -18,7 +18,7 @@ use Rattle.route.proofs.Promises.{channel-start, start-inside, hop-inside, chan
 use Rattle.wormhole.specs.declared.records.Record.{Record}
 use Rattle.wormhole.specs.Memory.{Net, Sections, holds-of, next-of, own, hold, link, put, drain, fill, named}
 use Rattle.wormhole.specs.Range.{every, at-most, names, words-fit}
-use Rattle.wormhole.specs.Steps.{stepped, release, leave, target, claim, room, can-follow}
+use Rattle.wormhole.specs.Steps.{stepped, release, leave, ahead, claim, room, can-follow}
 use Rattle.wormhole.proofs.Every.{both, every-at}
 
 -- a channel leads to another place
@@ -55,12 +55,12 @@ module _ (N : Net) (one : N .depth ≡ 1) (count : ℕ) (s : Sections) (fit : wo
 
   -- a lead from channel k, which is the front
   pub lead-empties : (i : ℕ) (r : Record) (d : ℕ) → names (N .mesh) (r .front) ≡ true → r .front ≡ suc k
-      → let t = target (N .mesh) r d in holds-of (claim (link (drain s k) k (t + 1)) t i) k ≡ 0
+      → let t = ahead (N .mesh) r d in holds-of (claim (link (drain s k) k (t + 1)) t i) k ≡ 0
   unfolding claim put link own hold drain
-  lead-empties i r d h e = getD-set-other (drain s k .holds) (target (N .mesh) r d) k 1 0 (λ q. ahead (r .front) h e (sym q)) ∙ drained
+  lead-empties i r d h e = getD-set-other (drain s k .holds) (ahead (N .mesh) r d) k 1 0 (λ q. other-than (r .front) h e (sym q)) ∙ drained
     where
-      ahead : (x : ℕ) → names (N .mesh) x ≡ true → x ≡ suc k → channel (N .mesh .columns) (named x (place-of (N .mesh .columns) (r .source)) (far (N .mesh .columns))) (dir-of d) ≡ k → ⊥
-      ahead x h e q = ahead-other (N .mesh) k (dir-of d) (rw e at h) (rw e at q)
+      other-than : (x : ℕ) → names (N .mesh) x ≡ true → x ≡ suc k → channel (N .mesh .columns) (named x (place-of (N .mesh .columns) (r .source)) (far (N .mesh .columns))) (dir-of d) ≡ k → ⊥
+      other-than x h e q = ahead-other (N .mesh) k (dir-of d) (rw e at h) (rw e at q)
 
   -- a follow from channel k
   pub follow-empties : can-follow N s k ≡ true → holds-of (fill (drain s k) (next-of s k - 1)) k ≡ 0

@@ -52,15 +52,15 @@ abbrev pub ready : Sections → Record → Bool
 ready s r = named (r .front) (leb 1 (r .waiting)) (λ k. leb 1 (holds-of s k))
 
 -- the channel that the header would take
-abbrev pub target : Mesh → Record → ℕ → ℕ
-target m r d = channel (m .columns) (head m r) (dir-of d)
+abbrev pub ahead : Mesh → Record → ℕ → ℕ
+ahead m r d = channel (m .columns) (head m r) (dir-of d)
 
 -- allowed: there is a flit, not at the destination, the direction is in the routing answer, and the channel ahead is free
 unfoldable pub may-lead : Net → Sections → Record → ℕ → Bool
 may-lead N s r d =
     let m = N .mesh in
     ready s r
-    && (not (same-place (head m r) (goal m r)) && (answer m (head m r) (arrival r) (goal m r) (dir-of d) && eqb (owner-of s (target m r d)) 0))
+    && (not (same-place (head m r) (goal m r)) && (answer m (head m r) (arrival r) (goal m r) (dir-of d) && eqb (owner-of s (ahead m r d)) 0))
 
 -- channel t becomes packet i's, with the header's flit in it
 unfoldable pub claim : Sections → ℕ → ℕ → Sections
@@ -77,7 +77,7 @@ advance s i r t k =
 
 -- done: from the source or from the front
 unfoldable pub lead : Net → Sections → ℕ → Record → ℕ → Stepped
-lead N s i r d = let t = target (N .mesh) r d in named (r .front) (start s i r t) (advance s i r t)
+lead N s i r d = let t = ahead (N .mesh) r d in named (r .front) (start s i r t) (advance s i r t)
 
 -- ---- 1 follow
 -- a word names a channel that has room for a flit

@@ -24,7 +24,7 @@ ghost use Rattle.route.specs.Paths.{same-place, answer};
 ghost use Rattle.route.specs.Channels.{channel};
 ghost use Rattle.route.specs.Coded.{meant};
 ghost use Rattle.wormhole.specs.Memory.{sections, holds-of};
-ghost use Rattle.wormhole.specs.Steps.{stepped, head, arrival, goal, ready, target, may-lead, claim, start, advance, lead};
+ghost use Rattle.wormhole.specs.Steps.{stepped, head, arrival, goal, ready, ahead, may-lead, claim, start, advance, lead};
 ghost use Rattle.wormhole.specs.Coded.{Packet, Memory, built, laid};
 
 // Where a packet's header is, and how it came there.
@@ -83,10 +83,10 @@ fn is_open(m: Mesh, r: Record, direction: u8) -> bool
 }
 
 // The channel that the header would take.
-fn target(m: Mesh, r: Record, direction: u8) -> u16
+fn ahead(m: Mesh, r: Record, direction: u8) -> u16
     requires { ⌜ Packet m r ⌝ }
     requires { ⌜ direction < 4 ⌝ }
-    ensures { λ t. ⌜ t ≡ target (meant m) r direction ⌝ ∗ ⌜ t < channels (m .columns) (m .rows) ⌝ }
+    ensures { λ t. ⌜ t ≡ ahead (meant m) r direction ⌝ ∗ ⌜ t < channels (m .columns) (m .rows) ⌝ }
 {
     let start = header_of(m, r).place;
     let channel = Channel {
@@ -110,7 +110,7 @@ pub fn may_lead(words: &[u16], m: Mesh, r: Record, direction: u8) -> bool
     if !is_open(m, r, direction) {
         return false;
     }
-    owner_of(words, n, target(m, r, direction)) == 0
+    owner_of(words, n, ahead(m, r, direction)) == 0
 }
 
 // Makes channel t packet i's, with the header's flit in it.
@@ -166,7 +166,7 @@ pub fn lead(words: &mut [u16], m: Mesh, i: u8, r: Record, direction: u8) -> Reco
         ≡ lead (built m) (laid m (now (words .entry))) i r direction ⌝ }
 {
     let n = channels_of(m.columns, m.rows);
-    let t = target(m, r, direction);
+    let t = ahead(m, r, direction);
     if r.front == 0 {
         return start(words, n, i, r, t);
     }

@@ -9,8 +9,8 @@ use Rattle.wormhole.proofs.leads.lead.Tie as tie
 channels-of-requires : tie.Need-channels-of-requires
 channels-of-requires c κs = search needs
 
-target-requires : tie.Need-target-requires
-target-requires c κs = search needs
+ahead-requires : tie.Need-ahead-requires
+ahead-requires c κs = search needs
 
 start-requires : tie.Need-start-requires
 start-requires c κs = let x = c .before .before .before .before .before .before .args in
@@ -43,7 +43,7 @@ lead-spec =
     tie.close
     (tie.spec
     channels-of-requires
-    target-requires
+    ahead-requires
     start-requires
     same-length
     returns

@@ -20,8 +20,8 @@ is-open-requires c κs = search needs
 returns-2 : tie.Need-returns-2
 returns-2 c = search lead-shut
 
-target-requires : tie.Need-target-requires
-target-requires c κs = search needs
+ahead-requires : tie.Need-ahead-requires
+ahead-requires c κs = search needs
 
 owner-of-requires : tie.Need-owner-of-requires
 owner-of-requires c κs = search needs
@@ -38,6 +38,6 @@ may-lead-spec =
     returns
     is-open-requires
     returns-2
-    target-requires
+    ahead-requires
     owner-of-requires
     returns-3)
