@@ -28,9 +28,9 @@ pub use Rattle.route.proofs.Shortest.{by-paths, none-shorter}
 -- numbers below their count, and the ends of channels that exist, lie in the mesh (place-inside, start-inside, hop-inside), and have such
 -- numbers (node-below, channel-below); what it is to be a channel (channel-is)
 pub use Rattle.route.proofs.Nodes.{channel-start, channel-way, place-inside, start-inside, hop-inside, node-below, channel-below, channel-is}
--- sides of a byte have a product of two (bytes-fit); a mesh that no call refuses has these sides and rule (Served, served), and a refusal is
--- given as it is (refuses)
-pub use Rattle.route.proofs.Nodes.{bytes-fit}
+-- sides of a byte have a product of two (bytes-fit), and sides up to 64 numbers of channels that fit a word (words-fit); a mesh that no call
+-- refuses has these sides and rule (Served, served), and a refusal is given as it is (refuses)
+pub use Rattle.route.proofs.Nodes.{bytes-fit, words-fit}
 pub use Rattle.route.proofs.Unless.{Served, served, refuses}
 -- for every turn table: a list rises if its numbers do at every allowed turn by 90 degrees (Rising); where the check names a pair, that
 -- pair falls and none before it does (First, first)

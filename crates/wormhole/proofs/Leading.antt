@@ -1,7 +1,7 @@
 -- The header: where it is, which way it may go and what it leaves, each return from the tests before it. Assumes nothing.
 use Prim.Native.Nat.{ℕ, zero, suc, _+_, _-_, _*_, _/_, _%_, _^_, _≤_, _<_}
 use mathlib.Core.Path.{_≡_, refl, sym, _∙_, subst}
-use mathlib.Core.Bool.{Bool, true, false, not, _&&_}
+use mathlib.Core.Bool.{Bool, true, false, not, _&&_, and-assoc}
 use mathlib.Core.List.{List}
 use native.Mathlib.Omega.{arith}
 use lib.Dec.{T, leb, eqb}
@@ -162,16 +162,6 @@ module _ (m : Coded) (r : Record) (d : ℕ) (p : Place) (i : Inside (meant m) p)
     ahead-low = rw et (channel-below (meant m) p (dir-of d) i)
 
 -- ---- may it take that channel?
-first-two : (x y z : Bool) → x && y ≡ false → x && (y && z) ≡ false
-first-two true true z e = absurd (subst T e tt)
-first-two true false z e = refl
-first-two false y z e = refl
-
-last-one : (x y z : Bool) → x && y ≡ true → x && (y && z) ≡ z
-last-one true true z e = refl
-last-one true false z e = absurd (subst T (sym e) tt)
-last-one false y z e = absurd (subst T (sym e) tt)
-
 module _ (m : Coded) (r : Record) (d n : ℕ) (w : List ℕ) (hn : n ≡ channels (m .columns) (m .rows)) where
   abbrev s : Sections
   s = laid m w
@@ -193,11 +183,11 @@ module _ (m : Coded) (r : Record) (d n : ℕ) (w : List ℕ) (hn : n ≡ channel
 
       pub lead-shut : not b ≡ true → false ≡ may-lead (built m) s r d
       unfolding may-lead
-      lead-shut h = rw is-ready (sym (first-two away given (eqb (owner-of s (ahead (meant m) r d)) 0) (sym eb ∙ not-true b h)))
+      lead-shut h = rw (is-ready, ← and-assoc away given (eqb (owner-of s (ahead (meant m) r d)) 0), sym eb ∙ not-true b h) refl
 
       pub lead-free : {t o : ℕ} → not b ≡ false → t ≡ ahead (meant m) r d → o ≡ owner-of (sections n w) t → eqb o 0 ≡ may-lead (built m) s r d
       unfolding may-lead
-      lead-free h et eo = rw (is-ready, eo, et, hn) (sym (last-one away given (eqb (owner-of s (ahead (meant m) r d)) 0) (sym eb ∙ not-false b h)))
+      lead-free h et eo = rw (is-ready, eo, et, hn, ← and-assoc away given (eqb (owner-of s (ahead (meant m) r d)) 0), sym eb ∙ not-false b h) refl
 
 -- ---- it takes it
 pub claiming : (s : Sections) {s′ : Sections} (t i : ℕ) {o h x : ℕ} → s′ ≡ put s t o h x → o ≡ i + 1 → h ≡ 1 → x ≡ 0 → s′ ≡ claim s t i

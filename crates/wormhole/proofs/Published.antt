@@ -2,7 +2,7 @@
 -- does. Assumes nothing.
 use Prim.Native.Nat.{ℕ, zero, suc, _+_, _-_, _≤_}
 use mathlib.Core.Path.{_≡_, refl, sym, _∙_, ap, subst}
-use mathlib.Core.Bool.{Bool, true, false, false≢true, _&&_}
+use mathlib.Core.Bool.{true, false≢true, _&&_, and-true}
 use mathlib.Core.List.{List, [], _∷_}
 use native.Mathlib.Omega.{arith}
 use lib.Dec.{T, eqb, leb, ltb→lt}
@@ -82,9 +82,4 @@ module _ (N : Net) (one : N .depth ≡ 1) (count : ℕ) (s : Sections) (fit : wo
 -- so the release is the published one: k is given up if it is the rear and no flit is at the source
 pub published : (s : Sections) (r : Record) (k front : ℕ) → holds-of s k ≡ 0 → leave s r k front ≡ pick (eqb (r .rear) (k + 1) && eqb (r .waiting) 0) (release s r k front) (stepped s r)
 unfolding leave
-published s r k front e = rw (eq-eqb (holds-of s k) 0 e) (go (eqb (r .rear) (k + 1)) (eqb (r .waiting) 0))
-  where
-    go : (a b : Bool) → pick (a && (b && true)) (release s r k front) (stepped s r) ≡ pick (a && b) (release s r k front) (stepped s r)
-    go true true = refl
-    go true false = refl
-    go false b = refl
+published s r k front e = rw (eq-eqb (holds-of s k) 0 e, and-true (eqb (r .waiting) 0)) refl

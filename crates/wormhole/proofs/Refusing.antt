@@ -1,7 +1,7 @@
 -- Refusals in their order: each return from the tests before it, and what no refusal has taught. Assumes nothing.
 use Prim.Native.Nat.{ℕ, zero, suc, _+_, _*_, _≤_, _<_}
 use mathlib.Core.Path.{_≡_, refl, sym, _∙_}
-use mathlib.Core.Bool.{Bool, true, false, not, _&&_, _||_}
+use mathlib.Core.Bool.{Bool, true, false, not, _&&_, _||_, and-false}
 use mathlib.Core.List.{List}
 use native.Mathlib.Omega.{arith}
 use lib.Dec.{leb, ltb, eqb}
@@ -69,11 +69,7 @@ module _ (C R rule words records : ℕ) {k : ℕ} (hk : k ≡ bad-size C R rule 
 
   module _ (z : k ≡ 0) (x fit : Bool) where
     pub memory-records : not fit ≡ true → 9 ≡ bad-memory C R rule words records (x && fit)
-    memory-records h = rw (sym hk ∙ z, not-true fit h) (go x)
-      where
-        go : (y : Bool) → _≡_ {A = ℕ} 9 (pick (y && false) 0 9)
-        go true = refl
-        go false = refl
+    memory-records h = rw (sym hk ∙ z, not-true fit h, and-false x) refl
 
     module _ {a : Bool} (ea : a ≡ x) where
       pub memory-words : not a ≡ true → 9 ≡ bad-memory C R rule words records (x && fit)

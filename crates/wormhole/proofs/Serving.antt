@@ -3,7 +3,7 @@ use Prim.Native.Nat.{ℕ, zero, suc, _+_, _-_, _*_, _≤_, _<_}
 use mathlib.Core.Path.{_≡_, refl, sym, _∙_, subst}
 use mathlib.Core.Bool.{Bool, true, _&&_}
 use mathlib.Core.List.{List}
-use native.Mathlib.Nat.{mul-le-mul-left, mul-le-mul}
+use native.Mathlib.Nat.{mul-le-mul-left}
 use native.Mathlib.Omega.{arith}
 use lib.Dec.{T, ltb, eqb}
 use lib.ListN.{drop}
@@ -14,7 +14,7 @@ use Rattle.route.specs.Mesh.{Mesh}
 use Rattle.route.specs.Numbers.{channels}
 use Rattle.route.specs.Channels.{is-channel}
 use Rattle.route.specs.Coded.{meant, Roomy}
-use Rattle.route.proofs.Promises.{channel-is}
+use Rattle.route.proofs.Promises.{channel-is, words-fit}
 use Rattle.wormhole.specs.declared.records.Record.{Record}
 use Rattle.wormhole.specs.Memory.{sections, next-of, named}
 use Rattle.wormhole.specs.Range.{names, blank, packet-fits, record-fits}
@@ -51,7 +51,7 @@ pub record Told (m : Coded) (r : Record) : Type 0 where
   pub front-low : r .front ≤ channels (m .columns) (m .rows)
 
 few-channels : (m : Coded) → Roomy m → channels (m .columns) (m .rows) ≤ 16384
-few-channels m h = omega (arith, mul-le-mul (h .columns-high) (h .rows-high))
+few-channels m h = words-fit (m .columns) (m .rows) (h .columns-high) (h .rows-high)
 
 -- a channel's number leaves room for 1 more in a word
 pub number-small : (m : Coded) (k : ℕ) → Roomy m → k < channels (m .columns) (m .rows) → k < 65535
