@@ -36,16 +36,6 @@ static unsigned node_count(void)
     return mesh.columns * mesh.rows;
 }
 
-static unsigned channel_count(void)
-{
-    return WAYS * node_count();
-}
-
-static bool channel_exists(unsigned channel)
-{
-    return channel < channel_count() && on_mesh(&mesh, end_of(&mesh, channel));
-}
-
 static unsigned far_node(int channel)
 {
     return node_at(&mesh, end_of(&mesh, (unsigned)channel));
@@ -64,7 +54,7 @@ static uint16_t to_word(int number)
 
 static bool none_or_channel(unsigned word)
 {
-    return word == 0 || channel_exists(word - 1);
+    return word == 0 || channel_exists(&mesh, word - 1);
 }
 
 /* The words of a channel within the three sections. */
@@ -81,7 +71,7 @@ static struct place_of_words words_of(const struct second_memory *lent, unsigned
 
 static bool words_in_range(const struct second_memory *lent)
 {
-    for (unsigned channel = 0; channel < channel_count(); channel++) {
+    for (unsigned channel = 0; channel < channel_count(&mesh); channel++) {
         struct place_of_words at = words_of(lent, channel);
         if (*at.owner > lent->count || *at.holds > 1 || !none_or_channel(*at.next))
             return false;
@@ -117,7 +107,7 @@ static bool records_in_range(const struct second_memory *lent)
 
 static bool sizes_right(const struct second_memory *lent)
 {
-    return lent->length == SECTIONS * channel_count() && lent->count >= 1 &&
+    return lent->length == SECTIONS * channel_count(&mesh) && lent->count >= 1 &&
            lent->count <= SECOND_RECORDS;
 }
 
@@ -158,7 +148,7 @@ static struct second_record record_of(const struct packet *packet)
 
 static void read_memory(const struct second_memory *lent)
 {
-    for (unsigned channel = 0; channel < channel_count(); channel++) {
+    for (unsigned channel = 0; channel < channel_count(&mesh); channel++) {
         struct place_of_words at = words_of(lent, channel);
         channels[channel] =
             (struct channel){from_word(*at.owner), *at.holds == 1, from_word(*at.next)};
@@ -169,7 +159,7 @@ static void read_memory(const struct second_memory *lent)
 
 static void write_memory(const struct second_memory *lent)
 {
-    for (unsigned channel = 0; channel < channel_count(); channel++) {
+    for (unsigned channel = 0; channel < channel_count(&mesh); channel++) {
         struct place_of_words at = words_of(lent, channel);
         *at.owner = to_word(channels[channel].owner);
         *at.holds = channels[channel].full ? 1 : 0;
@@ -301,7 +291,7 @@ static bool move_exists(const struct move *move, size_t count)
         return false;
     if (move->kind == LEAD)
         return move->direction < WAYS;
-    return move->kind != FOLLOW || channel_exists(move->channel);
+    return move->kind != FOLLOW || channel_exists(&mesh, move->channel);
 }
 
 static bool make(const struct move *move)
@@ -393,7 +383,7 @@ unsigned second_reset(unsigned columns, unsigned rows, struct second_memory lent
         return BAD_SIDE;
     if (!sizes_right(&lent))
         return BAD_SIZE;
-    for (unsigned channel = 0; channel < channel_count(); channel++)
+    for (unsigned channel = 0; channel < channel_count(&mesh); channel++)
         channels[channel] = unused;
     for (size_t i = 0; i < lent.count; i++)
         clear_packet(&packets[i]);

@@ -83,6 +83,17 @@ static inline struct place end_of(const struct mesh *mesh, unsigned channel)
     return neighbour(place_of(mesh, channel / WAYS), channel % WAYS);
 }
 
+/* How many numbers of channels there are, four a node. */
+static inline unsigned channel_count(const struct mesh *mesh)
+{
+    return WAYS * mesh->columns * mesh->rows;
+}
+
+static inline bool channel_exists(const struct mesh *mesh, unsigned channel)
+{
+    return channel < channel_count(mesh) && on_mesh(mesh, end_of(mesh, channel));
+}
+
 static inline unsigned opposite(unsigned way)
 {
     static const unsigned ways[WAYS] = {

@@ -312,12 +312,12 @@ static unsigned nodes(void)
 
 static unsigned channels(void)
 {
-    return WAYS * nodes();
+    return channel_count(&mesh);
 }
 
 static bool exists(unsigned channel)
 {
-    return channel < channels() && on_mesh(&mesh, end_of(&mesh, channel));
+    return channel_exists(&mesh, channel);
 }
 
 static size_t word_at(unsigned section, unsigned channel)

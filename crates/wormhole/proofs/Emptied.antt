@@ -4,8 +4,7 @@ use mathlib.Core.Path.{_≡_, refl}
 use borrow.Author.Tests.{eq-eqb, ne-eqb}
 use Rattle.wormhole.specs.declared.records.Record.{Record}
 use Rattle.wormhole.specs.Memory.{Sections, holds-of, next-of, put, anew}
-use Rattle.wormhole.specs.Steps.{Stepped, stepped, release, leave}
-use Rattle.wormhole.specs.Coded.{shortened}
+use Rattle.wormhole.specs.Steps.{Stepped, stepped, shortened, release, leave}
 
 -- ---- the record of a packet that gives up channel k
 module _ (r : Record) (k front next : ℕ) where

@@ -11,15 +11,14 @@ use lib.ListN.{getD, set}
 use borrow.Author.Tests.{not-true, not-false, eq-eqb, ne-eqb, leb-true, ltb-true, le-leb, lt-leb, lt-ltb, le-ltb}
 use Rattle.route.specs.declared.places.Place.{Place}
 use Rattle.route.specs.declared.meshes.Mesh.{Mesh as Coded}
-use Rattle.route.specs.Grid.{pick}
 use Rattle.route.specs.Numbers.{place-of, channels}
 use Rattle.route.specs.Paths.{same-place}
 use Rattle.route.specs.Channels.{far}
 use Rattle.route.specs.Coded.{meant}
 use Rattle.wormhole.specs.declared.records.Record.{Record}
 use Rattle.wormhole.specs.Memory.{depth, Sections, sections, owner-of, holds-of, next-of, hold, drain, fill, none, anew, named}
-use Rattle.wormhole.specs.Steps.{stepped, leave, head, goal, room, can-follow, may-follow, follow, may-feed, feed, may-eat, bite, finish, eat}
-use Rattle.wormhole.specs.Coded.{built, laid, Packet, Memory, finished}
+use Rattle.wormhole.specs.Steps.{stepped, leave, head, goal, room, can-follow, may-follow, follow, may-feed, feed, may-eat, bite, finished, eat}
+use Rattle.wormhole.specs.Coded.{built, laid, Packet, Memory}
 use Rattle.wormhole.proofs.Every.{both}
 use Rattle.wormhole.proofs.Serving.{named-none, named-some, names-low, next-names, tells}
 
@@ -202,16 +201,11 @@ module _ (m : Coded) (n : ℕ) (w : List ℕ) (hn : n ≡ channels (m .columns) 
     pub ate : (q z : Record) (v₁ v₂ : List ℕ) → sections n v₁ ≡ drain (sections n w) (r .front - 1)
         → stepped (sections n v₂) q ≡ leave (sections n v₁) (bite r) (r .front - 1) (r .front) → z ≡ finished (bite r) q
         → stepped (laid m v₂) z ≡ eat s r
-    unfolding eat finish
+    unfolding eat
     ate q z v₁ v₂ e₁ e₂ ez =
         let k = r .front - 1 in
         let e : stepped (sections n v₂) q ≡ leave (drain (sections n w) k) (bite r) k (r .front) = rw e₁ at e₂ in
-        rw (ez, sym (rw hn at e)) (cleared (eqb (r .eaten + 1) (r .flits)))
-      where
-        cleared : (b : Bool) → stepped (laid m v₂) (pick b none q)
-            ≡ pick b (stepped (laid m v₂) none) (stepped (laid m v₂) q)
-        cleared true = refl
-        cleared false = refl
+        rw (ez, sym (rw hn at e)) refl
 
 -- ---- the record after an eating
 module _ (r q : Record) where

@@ -1,7 +1,7 @@
 -- The header: where it is, which way it may go and what it leaves, each return from the tests before it. Assumes nothing.
 use Prim.Native.Nat.{ℕ, zero, suc, _+_, _-_, _*_, _/_, _%_, _^_, _≤_, _<_}
 use mathlib.Core.Path.{_≡_, refl, sym, _∙_, subst}
-use mathlib.Core.Bool.{Bool, true, false, not, _&&_, and-assoc}
+use mathlib.Core.Bool.{Bool, true, false, not, _&&_}
 use mathlib.Core.List.{List}
 use native.Mathlib.Omega.{arith}
 use lib.Dec.{T, leb, eqb}
@@ -19,7 +19,7 @@ use Rattle.route.specs.Coded.{meant}
 use Rattle.route.proofs.Promises.{start-inside, hop-inside, node-below, channel-below, channel-is}
 use Rattle.wormhole.specs.declared.records.Record.{Record}
 use Rattle.wormhole.specs.Memory.{Sections, sections, owner-of, holds-of, put, link, drain, anew}
-use Rattle.wormhole.specs.Steps.{Stepped, stepped, leave, head, arrival, goal, ready, ahead, may-lead, claim, start as begin, advance, lead}
+use Rattle.wormhole.specs.Steps.{Stepped, stepped, leave, head, arrival, goal, ready, ahead, onward, may-lead, claim, start as begin, advance, lead}
 use Rattle.wormhole.specs.Coded.{built, laid}
 use Rattle.wormhole.proofs.Every.{both}
 use Rattle.wormhole.proofs.Serving.{named-none, named-some, a-channel, Told}
@@ -146,7 +146,7 @@ in-outputs m n a t d low = go (same-place n t) d low
     go true (suc (suc (suc (suc d)))) l = absurd (omega arith)
 
 pub open-way : (m : Mesh) (r : Record) (o d a : ℕ) (p q : Place) → p ≡ head m r → arrival-of a ≡ arrival r → q ≡ goal m r → o ≡ outputs m p (arrival-of a) q → d < 4
-    → eqb (o / 2 ^ d % 2) 1 ≡ not (same-place (head m r) (goal m r)) && answer m (head m r) (arrival r) (goal m r) (dir-of d)
+    → eqb (o / 2 ^ d % 2) 1 ≡ onward m r d
 open-way m r o d a p q ep ea eq eo low = rw (eo, ep, ea, eq) (in-outputs m (head m r) (arrival r) (goal m r) d low)
 
 -- ---- the channel ahead
@@ -166,28 +166,22 @@ module _ (m : Coded) (r : Record) (d n : ℕ) (w : List ℕ) (hn : n ≡ channel
   abbrev s : Sections
   s = laid m w
 
-  abbrev away : Bool
-  away = not (same-place (head (meant m) r) (goal (meant m) r))
-
-  abbrev given : Bool
-  given = answer (meant m) (head (meant m) r) (arrival r) (goal (meant m) r) (dir-of d)
-
   module _ {a : Bool} (ea : a ≡ ready (sections n w) r) where
     pub lead-unready : not a ≡ true → false ≡ may-lead (built m) s r d
     unfolding may-lead
     lead-unready h = rw (rw hn at (sym ea ∙ not-true a h)) refl
 
-    module _ (ha : not a ≡ false) {b : Bool} (eb : b ≡ away && given) where
+    module _ (ha : not a ≡ false) {b : Bool} (eb : b ≡ onward (meant m) r d) where
       is-ready : ready s r ≡ true
       is-ready = rw hn at (sym ea ∙ not-false a ha)
 
       pub lead-shut : not b ≡ true → false ≡ may-lead (built m) s r d
       unfolding may-lead
-      lead-shut h = rw (is-ready, ← and-assoc away given (eqb (owner-of s (ahead (meant m) r d)) 0), sym eb ∙ not-true b h) refl
+      lead-shut h = rw (is-ready, sym eb ∙ not-true b h) refl
 
       pub lead-free : {t o : ℕ} → not b ≡ false → t ≡ ahead (meant m) r d → o ≡ owner-of (sections n w) t → eqb o 0 ≡ may-lead (built m) s r d
       unfolding may-lead
-      lead-free h et eo = rw (is-ready, eo, et, hn, ← and-assoc away given (eqb (owner-of s (ahead (meant m) r d)) 0), sym eb ∙ not-false b h) refl
+      lead-free h et eo = rw (is-ready, eo, et, hn, sym eb ∙ not-false b h) refl
 
 -- ---- it takes it
 pub claiming : (s : Sections) {s′ : Sections} (t i : ℕ) {o h x : ℕ} → s′ ≡ put s t o h x → o ≡ i + 1 → h ≡ 1 → x ≡ 0 → s′ ≡ claim s t i

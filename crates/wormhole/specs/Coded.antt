@@ -1,5 +1,5 @@
 -- What the code's own values stand for: cited by the contracts of its inner functions. No call's promise rests on it. Assumes nothing.
-use Prim.Native.Nat.{ℕ, zero, suc, _+_}
+use Prim.Native.Nat.{ℕ, zero, suc}
 use mathlib.Core.Path.{_≡_}
 use mathlib.Core.Bool.{Bool, true, _&&_}
 use mathlib.Core.List.{List}
@@ -16,7 +16,7 @@ use Rattle.wormhole.specs.declared.offers.Placed.{Placed}
 use Rattle.wormhole.specs.declared.records.Record.{Record}
 use Rattle.wormhole.specs.declared.resets.Wiped.{Wiped}
 use Rattle.wormhole.specs.declared.surveys.Found.{Found}
-use Rattle.wormhole.specs.Memory.{Net, depth, net, Sections, sections, joined, none, fresh, anew}
+use Rattle.wormhole.specs.Memory.{Net, depth, net, Sections, sections, joined, none, fresh}
 use Rattle.wormhole.specs.Range.{every, names, words-fit, record-fits}
 use Rattle.wormhole.specs.Steps.{act}
 use Rattle.wormhole.specs.Calls.{needed, bad-offer, offered, bad-move, allowed}
@@ -69,14 +69,6 @@ placed C R rule w s records a b f =
     unless (λ k. record { answer = offered k 255; at = records; packet = none })
     (bad-offer C R rule (length w) records (words-fit (net C R rule) records (sections (channels C R) w) && s .fit) (s .empty) a b f)
     (record { answer = offered 0 (s .empty); at = s .empty; packet = fresh a b f })
-
--- the record of a packet that gives up channel k
-abbrev pub shortened : Record → ℕ → ℕ → ℕ → Record
-shortened r k front next = anew r (r .waiting) (r .eaten) next (pick (eqb front (k + 1) && eqb next 0) 0 (r .front))
-
--- the record after an eating, which was r before the release
-abbrev pub finished : Record → Record → Record
-finished r released = pick (eqb (r .eaten) (r .flits)) none released
 
 -- a record in range, in a mesh with room
 pub record Fitting (m : Coded) (r : Record) : Type 0 where

@@ -23,10 +23,13 @@ abbrev pub stepped : Sections → Record → Stepped
 stepped s r = record { words = s; packet = r }
 
 -- ---- a flit has left channel k
--- the channel is given up: rear becomes its next, and front 0 if it was the front before the move and has no next
+-- the record of a packet that gives up channel k: rear becomes its next, and front 0 if it was the front before the move and has no next
+abbrev pub shortened : Record → ℕ → ℕ → ℕ → Record
+shortened r k front next = anew r (r .waiting) (r .eaten) next (pick (eqb front (k + 1) && eqb next 0) 0 (r .front))
+
+-- the channel is given up, and its words are 0
 unfoldable pub release : Sections → Record → ℕ → ℕ → Stepped
-release s r k front =
-    stepped (put s k 0 0 0) (anew r (r .waiting) (r .eaten) (next-of s k) (pick (eqb front (k + 1) && eqb (next-of s k) 0) 0 (r .front)))
+release s r k front = stepped (put s k 0 0 0) (shortened r k front (next-of s k))
 
 -- that is so if it is the rear, no flit is at the source and none is left in it, as with one flit a channel there never is (proofs/Published);
 -- `front` is the front before the move
@@ -55,12 +58,13 @@ ready s r = named (r .front) (leb 1 (r .waiting)) (λ k. leb 1 (holds-of s k))
 abbrev pub ahead : Mesh → Record → ℕ → ℕ
 ahead m r d = channel (m .columns) (head m r) (dir-of d)
 
--- allowed: there is a flit, not at the destination, the direction is in the routing answer, and the channel ahead is free
+-- it may go on: it is not at the destination, and the direction is in the routing answer for it
+abbrev pub onward : Mesh → Record → ℕ → Bool
+onward m r d = not (same-place (head m r) (goal m r)) && answer m (head m r) (arrival r) (goal m r) (dir-of d)
+
+-- allowed: there is a flit, it may go on, and the channel ahead is free
 unfoldable pub may-lead : Net → Sections → Record → ℕ → Bool
-may-lead N s r d =
-    let m = N .mesh in
-    ready s r
-    && (not (same-place (head m r) (goal m r)) && (answer m (head m r) (arrival r) (goal m r) (dir-of d) && eqb (owner-of s (ahead m r d)) 0))
+may-lead N s r d = let m = N .mesh in ready s r && (onward m r d && eqb (owner-of s (ahead m r d)) 0)
 
 -- channel t becomes packet i's, with the header's flit in it
 unfoldable pub claim : Sections → ℕ → ℕ → Sections
@@ -116,13 +120,16 @@ may-eat N s r =
 abbrev pub bite : Record → Record
 bite r = anew r (r .waiting) (r .eaten + 1) (r .rear) (r .front)
 
--- a packet that is eaten whole leaves its record empty; that comes last
-unfoldable pub finish : Record → Stepped → Stepped
-finish r a = pick (eqb (r .eaten) (r .flits)) (stepped (a .words) none) a
+-- a packet that is eaten whole leaves its record empty, else the one after the release
+abbrev pub finished : Record → Record → Record
+finished r released = pick (eqb (r .eaten) (r .flits)) none released
 
--- done: one flit leaves the front for the destination
+-- done: one flit leaves the front for the destination; the clearing of the record comes last
 unfoldable pub eat : Sections → Record → Stepped
-eat s r = let k = r .front - 1 in finish (bite r) (leave (drain s k) (bite r) k (r .front))
+eat s r =
+    let k = r .front - 1 in
+    let after = leave (drain s k) (bite r) k (r .front) in
+    stepped (after .words) (finished (bite r) (after .packet))
 
 -- ---- by kind
 -- the kind is one of the four, and what it names can be: a direction for a lead, a channel that exists for a follow

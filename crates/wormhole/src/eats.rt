@@ -10,8 +10,8 @@ use route::Mesh;
 use route::place_of;
 ghost use mathlib.Core.Path.{_≡_};
 ghost use mathlib.Core.Bool.{true};
-ghost use Rattle.wormhole.specs.Steps.{stepped, may-eat, eat};
-ghost use Rattle.wormhole.specs.Coded.{Packet, Memory, finished, built, laid};
+ghost use Rattle.wormhole.specs.Steps.{stepped, may-eat, finished, eat};
+ghost use Rattle.wormhole.specs.Coded.{Packet, Memory, built, laid};
 
 // May the destination take a flit from the packet's front?
 pub fn may_eat(words: &[u16], m: Mesh, r: Record) -> bool

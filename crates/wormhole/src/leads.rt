@@ -15,16 +15,15 @@ use route::channel_of;
 use route::outputs_at;
 use route::place_of;
 ghost use mathlib.Core.Path.{_≡_};
-ghost use mathlib.Core.Bool.{true, not, _&&_};
+ghost use mathlib.Core.Bool.{true};
 ghost use Prim.Native.Nat.{_+_, _<_, _≤_};
 ghost use lib.ListN.{length};
 ghost use Rattle.route.specs.Mesh.{Inside};
-ghost use Rattle.route.specs.Numbers.{dir-of, arrival-of, channels};
-ghost use Rattle.route.specs.Paths.{same-place, answer};
+ghost use Rattle.route.specs.Numbers.{arrival-of, channels};
 ghost use Rattle.route.specs.Channels.{channel};
 ghost use Rattle.route.specs.Coded.{meant};
 ghost use Rattle.wormhole.specs.Memory.{sections, holds-of};
-ghost use Rattle.wormhole.specs.Steps.{stepped, head, arrival, goal, ready, ahead, may-lead, claim, start, advance, lead};
+ghost use Rattle.wormhole.specs.Steps.{stepped, head, arrival, ready, ahead, onward, may-lead, claim, start, advance, lead};
 ghost use Rattle.wormhole.specs.Coded.{Packet, Memory, built, laid};
 
 // Where a packet's header is, and how it came there.
@@ -70,7 +69,7 @@ fn is_ready(words: &[u16], n: usize, r: Record) -> bool
 fn is_open(m: Mesh, r: Record, direction: u8) -> bool
     requires { ⌜ Packet m r ⌝ }
     requires { ⌜ direction < 4 ⌝ }
-    ensures { λ b. ⌜ b ≡ not (same-place (head (meant m) r) (goal (meant m) r)) && answer (meant m) (head (meant m) r) (arrival r) (goal (meant m) r) (dir-of direction) ⌝ }
+    ensures { λ b. ⌜ b ≡ onward (meant m) r direction ⌝ }
 {
     let header = header_of(m, r);
     let outputs = outputs_at(

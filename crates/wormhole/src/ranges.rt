@@ -9,6 +9,7 @@ ghost use Rattle.route.specs.Numbers.{channels};
 ghost use Rattle.route.specs.Channels.{is-channel};
 ghost use Rattle.wormhole.specs.Memory.{sections};
 ghost use Rattle.wormhole.specs.Range.{every, at-most, names, blank, flits-served, packet-fits, record-fits, words-fit};
+ghost use Rattle.wormhole.specs.Calls.{needed};
 ghost use Rattle.wormhole.specs.Coded.{sides, buffered};
 
 // How many flits a channel can hold.
@@ -75,7 +76,7 @@ fn all_name(section: &[u16], columns: u8, rows: u8) -> bool
 
 // Are all words in range, in a memory of so many records?
 pub fn words_fit(words: &[u16], columns: u8, rows: u8, count: u16) -> bool
-    requires { ⌜ length (now words) ≡ channels columns rows + channels columns rows + channels columns rows ⌝ }
+    requires { ⌜ length (now words) ≡ needed columns rows ⌝ }
     ensures { λ b. ⌜ b ≡ words-fit (buffered (sides columns rows)) count (sections (channels columns rows) (now (words .entry))) ⌝ }
 {
     let n = channels_of(columns, rows);

@@ -7,8 +7,7 @@ ghost use mathlib.Core.Path.{_≡_};
 ghost use Prim.Native.Nat.{_+_, _<_};
 ghost use lib.ListN.{length};
 ghost use Rattle.wormhole.specs.Memory.{sections};
-ghost use Rattle.wormhole.specs.Steps.{stepped, release, leave};
-ghost use Rattle.wormhole.specs.Coded.{shortened};
+ghost use Rattle.wormhole.specs.Steps.{stepped, shortened, release, leave};
 
 // The record of a packet that gives up channel k, which had this next; `front` is the packet's front
 // before the move.
