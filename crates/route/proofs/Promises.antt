@@ -22,8 +22,8 @@ use Rattle.route.proofs.Outputs.{empty-set}
 use Rattle.route.proofs.Accepts.{rising, accepted}
 use Rattle.route.proofs.Open.{open-way}
 -- for every turn table: a direction is in the answer exactly if some shortest legal path begins with it (by-paths); no legal path is
--- shorter than the distance (none-shorter)
-pub use Rattle.route.proofs.Shortest.{by-paths, none-shorter}
+-- shorter than the distance (none-shorter); two places are one exactly if their distance is 0 (home)
+pub use Rattle.route.proofs.Shortest.{by-paths, none-shorter, home}
 -- the channel that has the number of a place and a direction leaves that place by that direction (channel-start, channel-way); the places of
 -- numbers below their count, and the ends of channels that exist, lie in the mesh (place-inside, start-inside, hop-inside), and have such
 -- numbers (node-below, channel-below); what it is to be a channel (channel-is)

@@ -5,8 +5,7 @@ use mathlib.Core.Bool.{Bool, true, false, not, _&&_}
 use mathlib.Core.List.{List}
 use native.Mathlib.Omega.{arith}
 use lib.Dec.{T, leb, ltb, eqb}
-use lib.ListN.{length, drop, take-append-drop}
-use lib.Seq.{drop-drop}
+use lib.ListN.{length}
 use borrow.Author.Tests.{not-true, not-false, eq-eqb, ne-eqb, eqb-true, ltb-true, lt-ltb, le-ltb, lt-leb}
 use Rattle.route.specs.declared.meshes.Mesh.{Mesh as Coded}
 use Rattle.route.specs.Mesh.{Mesh, ruled}
@@ -15,12 +14,13 @@ use Rattle.route.specs.Channels.{is-channel}
 use Rattle.route.specs.Coded.{meant, Roomy}
 use Rattle.route.proofs.Promises.{channel-is, refuses}
 use Rattle.wormhole.specs.declared.records.Record.{Record}
-use Rattle.wormhole.specs.Memory.{Net, depth, net, Sections, owner-of, sections, joined}
+use Rattle.wormhole.specs.Memory.{Net, depth, net, Sections, owner-of, sections}
 use Rattle.wormhole.specs.Range.{every, at-most, names, words-fit, record-fits}
 use Rattle.wormhole.specs.Steps.{Stepped, stepped, may-lead, lead, can-follow, may-follow, follow, may-feed, feed, may-eat, eat, known, may, act}
 use Rattle.wormhole.specs.Calls.{bad-memory, allowed}
 use Rattle.wormhole.specs.Coded.{sides, buffered, Fitting, Memory, tried, try}
 use Rattle.wormhole.proofs.Every.{both}
+use Rattle.wormhole.proofs.Sections.{rejoined}
 use Rattle.wormhole.proofs.AnyRule.{same-kinds, same-record}
 use Rattle.wormhole.proofs.Refusing.{Sized, fitting}
 
@@ -177,11 +177,6 @@ module _ (C R rule : ℕ) (w : List ℕ) (fit : Bool) (records : ℕ) {c : ℕ}
         rw em (sym (same-kinds C R rule kind k d) ∙ both (ltb i records) (known (sides C R) kind k d) (sym ea ∙ not-false a h) .1)
 
 -- ---- the call
--- sections put together again
-rejoined : (n : ℕ) (w : List ℕ) → joined (sections n w) ≡ w
-unfolding joined sections
-rejoined n w = rw (← drop-drop n n w, take-append-drop n (drop n w), take-append-drop n w) refl
-
 module _ (C R rule : ℕ) (w : List ℕ) (fit : Bool) (records : ℕ) (r : Record) (i kind k d : ℕ) {c : ℕ}
     (hc : c ≡ bad-memory C R rule (length w) records (words-fit (net C R rule) records (sections (channels C R) w) && fit)) where
   pub try-memory : (c ≡ 0 → ⊥) → tried c w r ≡ try C R rule w fit records r i kind k d

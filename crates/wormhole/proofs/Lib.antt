@@ -15,3 +15,4 @@ mod Leading
 mod Flowing
 mod ByKind
 pub mod Published
+pub mod Draining

@@ -1,11 +1,12 @@
--- A word of the list is a word of one section, and a store in the list a store in one section: by the laws of take and drop. Assumes nothing.
+-- A word of the list is a word of one section, and a store in the list a store in one section; sections joined are the list. By the laws of take
+-- and drop. Assumes nothing.
 use Prim.Native.Nat.{ℕ, _+_, _-_, _<_}
 use mathlib.Core.Path.{_≡_, refl, sym, _∙_}
-use mathlib.Core.List.{List}
+use mathlib.Core.List.{List, _++_}
 use native.Mathlib.Omega.{arith}
-use lib.ListN.{take, drop, set, getD}
-use lib.Seq.{getD-take, getD-drop, take-set-lt, take-set-le, drop-set-lt, drop-set-add}
-use Rattle.wormhole.specs.Memory.{Sections, sections, owner-of, holds-of, next-of, own, hold, link, put, drain, fill}
+use lib.ListN.{length, take, drop, set, getD, length-append, take-append-drop}
+use lib.Seq.{getD-take, getD-drop, take-set-lt, take-set-le, drop-set-lt, drop-set-add, take-at, drop-at, drop-drop}
+use Rattle.wormhole.specs.Memory.{Sections, sections, joined, owner-of, holds-of, next-of, own, hold, link, put, drain, fill}
 
 module _ (n k : ℕ) (w : List ℕ) where
   pub owner-at : k < n → getD w k 0 ≡ owner-of (sections n w) k
@@ -53,3 +54,24 @@ module _ (s : Sections) (k : ℕ) where
   pub filling : {t : Sections} (h : ℕ) → h ≡ holds-of s k → t ≡ hold s k (h + 1) → t ≡ fill s k
   unfolding fill
   filling h e f = rw (f, e) refl
+
+-- ---- a list and its sections
+pub rejoined : (n : ℕ) (w : List ℕ) → joined (sections n w) ≡ w
+unfolding joined sections
+rejoined n w = rw (← drop-drop n n w, take-append-drop n (drop n w), take-append-drop n w) refl
+
+pub sections-joined : (n : ℕ) (s : Sections) → length (s .owner) ≡ n → length (s .holds) ≡ n → sections n (joined s) ≡ s
+unfolding sections joined
+sections-joined n s o h =
+    rw (
+      ← drop-drop n n (s .owner ++ (s .holds ++ s .next)),
+      take-at (s .owner) (s .holds ++ s .next) n o,
+      drop-at (s .owner) (s .holds ++ s .next) n o,
+      take-at (s .holds) (s .next) n h,
+      drop-at (s .holds) (s .next) n h,
+    )
+    refl
+
+pub joined-long : (n : ℕ) (s : Sections) → length (s .owner) ≡ n → length (s .holds) ≡ n → length (s .next) ≡ n → length (joined s) ≡ n + n + n
+unfolding joined
+joined-long n s o h x = omega (arith, length-append (s .owner) (s .holds ++ s .next), length-append (s .holds) (s .next), o, h, x)
