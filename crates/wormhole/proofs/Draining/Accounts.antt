@@ -64,7 +64,7 @@ module _ (C R rule : ℕ) where
   -- a packet that has not set out owes all its moves
   owing : (s : Sections) (i a b f : ℕ) → Nothing s i → left-of M s i (fresh a b f) ≡ owes C a b f
   unfolding yet
-  owing s i a b f nothing = omega (arith, load-none (M .numbers) (owner-of s) (holds-of s) i (heavy M (aim M (fresh a b f))) nothing)
+  owing s i a b f nothing = omega (arith, load-none (M .numbers) i (heavy M (aim M (fresh a b f))) (owner-of s) (holds-of s) nothing)
 
   module _ (count : ℕ) (m : Lent) (G : Good count m) where
     abbrev s : Sections

@@ -14,7 +14,7 @@ use Rattle.wormhole.specs.declared.records.Record.{Record}
 use Rattle.wormhole.specs.Memory.{Sections, owner-of, holds-of, next-of, none}
 use Rattle.wormhole.specs.Steps.{Stepped, start, advance, follow, feed, eat}
 use Rattle.wormhole.proofs.Draining.Network.{Network}
-use Rattle.wormhole.proofs.Draining.Loads.{load-ge}
+use Rattle.wormhole.proofs.Draining.Loads.{load-at-least}
 use Rattle.wormhole.proofs.Draining.Shape.{gap, Shape}
 use Rattle.wormhole.proofs.Draining.Fill.{one}
 use Rattle.wormhole.proofs.Draining.Invariant.{aim, Fine, Waiting, Held, Slot, unused, waits, holds, Invariant}
@@ -84,7 +84,7 @@ module _ (M : Network) (s : Sections) (rs : List Record) (I : Invariant M s rs) 
       module _ (full : r .waiting ≡ 0 → 1 ≤ holds-of s q) (again : (j : ℕ) (O : Owner M s rs j) → M .rank f < M .rank (O .f) → Able M s rs) where
         arrived : gap M (aim M r) f ≡ 0 → Dec (1 ≤ holds-of s f) → Dec (1 ≤ holds-of s q) → Dec (r .waiting ≡ 0) → Able M s rs
         arrived z (yes some) d w =
-            let l = load-ge (M .numbers) (owner-of s) (holds-of s) i one f (M .below f (S .at f (S .front) .real)) (S .front) in
+            let l = load-at-least (M .numbers) i one (owner-of s) (holds-of s) f (M .below f (S .at f (S .front) .real)) (S .front) in
             able (eat s r) (eats f (H .front) z some (omega (arith, H .fill .sum)) refl)
         arrived z (no empty) (yes some) w = walk (omega arith) (gap M (aim M r) q) q (omega arith) (S .rear) some
         arrived z (no empty) (no none) (yes w) = absurd (none (full w))

@@ -15,8 +15,8 @@ use Rattle.wormhole.specs.declared.records.Record.{Record}
 use Rattle.wormhole.specs.Memory.{Sections, sections, joined, owner-of, holds-of, none}
 use Rattle.wormhole.proofs.Sections.{sections-joined}
 use Rattle.wormhole.proofs.Draining.Network.{Network}
-use Rattle.wormhole.proofs.Draining.Sums.{sum-ge, sum-zero, sum-some}
-use Rattle.wormhole.proofs.Draining.Loads.{load, load-ge}
+use Rattle.wormhole.proofs.Draining.Sums.{sum-at-least, sum-zero, sum-some}
+use Rattle.wormhole.proofs.Draining.Loads.{load, load-at-least}
 use Rattle.wormhole.proofs.Draining.Fill.{heavy, yet, yet-none}
 use Rattle.wormhole.proofs.Draining.Invariant.{Nothing, aim, away, Slot, unused, waits, holds, Invariant, left-of, share, left}
 
@@ -59,7 +59,7 @@ module _ (M : Network) where
     unfolding yet
     left-unused (unused e nothing) z = (e, nothing)
     left-unused (waits fine W) z =
-        let l = load (M .numbers) (owner-of s) (holds-of s) i (heavy M (aim M r)) in
+        let l = load (M .numbers) i (heavy M (aim M r)) (owner-of s) (holds-of s) in
         absurd (omega (arith, z, some-left (r .waiting) (away M r) l (omega (arith, W .waiting, fine .some))))
     left-unused (holds q f fine H full) z = absurd (go (ℕ-discrete (r .waiting) 0))
       where
@@ -67,10 +67,10 @@ module _ (M : Network) where
         go (yes e) =
             let S = H .shape in
             let low = M .below q (S .at q (S .rear) .real) in
-            let g = load-ge (M .numbers) (owner-of s) (holds-of s) i (heavy M (aim M r)) q low (S .rear) in
+            let g = load-at-least (M .numbers) i (heavy M (aim M r)) (owner-of s) (holds-of s) q low (S .rear) in
             omega (arith, z, g, some-left (holds-of s q) (M .dist (M .far q) (aim M r)) 0 (full e))
         go (no ne) =
-            let l = load (M .numbers) (owner-of s) (holds-of s) i (heavy M (aim M r)) in
+            let l = load (M .numbers) i (heavy M (aim M r)) (owner-of s) (holds-of s) in
             omega (arith, z, some-left (r .waiting) (away M r) l (omega arith))
 
     live : Slot M s i r → 1 ≤ left-of M s i r → r .live ≢ 0
@@ -82,7 +82,7 @@ module _ (M : Network) where
   module _ (test : ℕ → Bool) (s : Sections) (rs : List Record) (I : Invariant M s rs) where
     pub none-left : ((j : ℕ) → T (test j) → getD rs j none ≡ none) → left M test s rs ≡ 0
     unfolding left
-    none-left all = sum-zero (length rs) (share M test s rs) (λ j l. at j (test j) (all j))
+    none-left all = sum-zero (share M test s rs) (length rs) (λ j l. at j (test j) (all j))
       where
         at : (j : ℕ) (b : Bool) → (T b → getD rs j none ≡ none) → pick b (left-of M s j (getD rs j none)) 0 ≡ 0
         at j true e = unused-left s j (getD rs j none) (I .slot j) (e tt)
@@ -90,7 +90,7 @@ module _ (M : Network) where
 
     pub left-none : left M test s rs ≡ 0 → (j : ℕ) → j < length rs → T (test j) → (getD rs j none ≡ none) × Nothing s j
     unfolding left
-    left-none z j l = at (test j) (omega (arith, z, sum-ge (length rs) j (share M test s rs) l))
+    left-none z j l = at (test j) (omega (arith, z, sum-at-least (share M test s rs) (length rs) j l))
       where
         at : (b : Bool) → pick b (left-of M s j (getD rs j none)) 0 ≡ 0 → T b → (getD rs j none ≡ none) × Nothing s j
         at true e t = left-unused s j (getD rs j none) (I .slot j) e
@@ -99,7 +99,7 @@ module _ (M : Network) where
     pub some-live : 1 ≤ left M test s rs → (j : ℕ) × (getD rs j none .live ≢ 0)
     unfolding left
     some-live l =
-        let p = sum-some (length rs) (share M test s rs) l in
+        let p = sum-some (share M test s rs) (length rs) l in
         (p .0, at (p .0) (test (p .0)) (p .2))
       where
         at : (j : ℕ) (b : Bool) → 1 ≤ pick b (left-of M s j (getD rs j none)) 0 → getD rs j none .live ≢ 0

@@ -15,7 +15,7 @@ use Rattle.wormhole.specs.declared.records.Record.{Record}
 use Rattle.wormhole.specs.Memory.{Sections, owner-of, holds-of, next-of, none}
 use Rattle.wormhole.specs.Steps.{Stepped}
 use Rattle.wormhole.proofs.Draining.Network.{Network}
-use Rattle.wormhole.proofs.Draining.Sums.{Σ<, sum-one}
+use Rattle.wormhole.proofs.Draining.Sums.{Σ<, sum-change}
 use Rattle.wormhole.proofs.Draining.Loads.{load-kept}
 use Rattle.wormhole.proofs.Draining.Shape.{Shape, shape-kept}
 use Rattle.wormhole.proofs.Draining.Fill.{Fill, heavy, yet, fill-kept}
@@ -109,21 +109,19 @@ module _ (M : Network) (i : ℕ) (s s′ : Sections) (F : Frame i s s′) where
       (record {
         rear = H .rear;
         front = H .front;
-        shape =
-            shape-kept M j (aim M r) (owner-of s) (next-of s) (owner-of s′) (next-of s′) q f
-            (λ k e. let c = keeps j ne k e in (c .0, c .2)) (backs j ne) (H .shape);
-        fill =
-            fill-kept M j (aim M r) (away M r) (owner-of s) (holds-of s) (owner-of s′) (holds-of s′) (r .flits) (r .waiting) (r .eaten) q f
-            (λ k e. let c = keeps j ne k e in (c .0, c .1)) (backs j ne) (H .shape .front) (H .fill);
+        shape = shape-kept (λ k e. let c = keeps j ne k e in (c .0, c .2)) (backs j ne) (H .shape);
+        fill = fill-kept (λ k e. let c = keeps j ne k e in (c .0, c .1)) (backs j ne) (H .shape .front) (H .fill);
       })
       (λ z. omega (arith, keeps j ne q (H .shape .rear) .1, full z))
 
   left-kept : (j : ℕ) (r : Record) → j ≢ i → left-of M s′ j r ≡ left-of M s j r
   unfolding yet
   left-kept j r ne =
-      let l = load-kept (M .numbers) (owner-of s) (holds-of s) (owner-of s′) (holds-of s′) j (heavy M (aim M r))
-      (λ k e. let c = keeps j ne k e in (c .0, c .1)) (backs j ne) in
-      omega arith
+      omega (
+        arith,
+        load-kept (M .numbers) j (heavy M (aim M r)) (owner-of s) (holds-of s) (owner-of s′) (holds-of s′)
+            (λ k e. let c = keeps j ne k e in (c .0, c .1)) (backs j ne),
+      )
 
   module _ (rs : List Record) (r : Record) (low : i < length rs) where
     here : getD (set rs i r) i none ≡ r
@@ -158,6 +156,6 @@ module _ (M : Network) (i : ℕ) (s s′ : Sections) (F : Frame i s s′) where
         → left M test s′ (set rs i r) + pick (test i) (left-of M s i (getD rs i none)) 0 ≡ left M test s rs + pick (test i) (left-of M s′ i r) 0
     unfolding left
     left-all test =
-        let p = sum-one (length rs) i (share M test s rs) (share M test s′ (set rs i r)) low
+        let p = sum-change (share M test s rs) (share M test s′ (set rs i r)) (length rs) i low
         (λ j ne. rw (elsewhere j ne, left-kept j (getD rs j none) ne) refl) in
         rw (length-set rs i r) (rw here at p)

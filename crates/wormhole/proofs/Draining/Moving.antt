@@ -16,9 +16,9 @@ use Rattle.wormhole.specs.Steps.{Stepped, stepped, leave, claim, start, 
 use Rattle.wormhole.proofs.Draining.Picks.{picked, passed, decided}
 use Rattle.wormhole.proofs.Draining.Network.{Network}
 use Rattle.wormhole.proofs.Draining.Sums.{Upd}
-use Rattle.wormhole.proofs.Draining.Loads.{load-ge}
+use Rattle.wormhole.proofs.Draining.Loads.{load-at-least}
 use Rattle.wormhole.proofs.Draining.Shape.{gap, Ahead, Shape, shape-start, shape-advance}
-use Rattle.wormhole.proofs.Draining.Fill.{Fill, yet, yet-none, one, below, fill-start, fill-feed, fill-follow, fill-eat, fill-advance}
+use Rattle.wormhole.proofs.Draining.Fill.{Fill, yet, yet-none, one, fill-start, fill-feed, fill-follow, fill-eat, fill-advance}
 use Rattle.wormhole.proofs.Draining.Frames.{stored, Frame, frame-then, frame-hold, frame-link, frame-put}
 use Rattle.wormhole.proofs.Draining.Invariant.{Nothing, aim, away, Fine, Waiting, Held, Slot, unused, waits, holds, Invariant, left-of, Kept}
 use Rattle.wormhole.proofs.Draining.Releasing.{After, still, gone, Left, left-law}
@@ -64,9 +64,7 @@ module _ (M : Network) (s : Sections) (rs : List Record) (I : Invariant M s rs) 
             (record {
               rear = omega arith;
               front = omega arith;
-              shape =
-                  shape-start M i (aim M r) (owner-of s) (owner-of s′) (next-of s′) (away M r) t (W .nothing) uo
-                  (stored (s .next) t 0 refl (long t l .2) .at) A;
+              shape = shape-start (W .nothing) uo (stored (s .next) t 0 refl (long t l .2) .at) A;
               fill = rw (W .eaten) (both .0);
             })
             (λ w. omega (arith, uh .at));
@@ -87,9 +85,7 @@ module _ (M : Network) (s : Sections) (rs : List Record) (I : Invariant M s rs) 
 
       both : Fill M i (aim M r) (away M r) (owner-of s′) (holds-of s′) (r .flits) (r .waiting - 1) 0 t t
           × (suc (yet M i (aim M r) (away M r) (owner-of s′) (holds-of s′) (r .waiting - 1)) ≡ left-of M s i r)
-      both =
-          fill-start M i (aim M r) (away M r) (owner-of s) (owner-of s′) (holds-of s) (holds-of s′) (r .flits) (r .waiting) t (W .nothing) (W .waiting)
-          some A uo uh
+      both = fill-start (W .nothing) (W .waiting) some A uo uh
 
   -- ---- the other steps are of a packet that holds the channels from q to f
   module _ (q f : ℕ) (H : Held M s i r q f) (full : r .waiting ≡ 0 → 1 ≤ holds-of s q) where
@@ -97,7 +93,7 @@ module _ (M : Network) (s : Sections) (rs : List Record) (I : Invariant M s rs) 
     S = H .shape
 
     low : (k : ℕ) → owner-of s k ≡ suc i → k < M .numbers
-    low = below M i (aim M r) (away M r) (owner-of s) (next-of s) (holds-of s) (r .flits) (r .waiting) (r .eaten) q f S
+    low k m = M .below k (S .at k m .real)
 
     -- into the rear
     feed-law : 1 ≤ r .waiting → holds-of s q < M .depth → Kept M i s r (feed s r)
@@ -122,9 +118,7 @@ module _ (M : Network) (s : Sections) (rs : List Record) (I : Invariant M s rs) 
 
         both : Fill M i (aim M r) (away M r) (owner-of s) (holds-of s′) (r .flits) (r .waiting - 1) (r .eaten) q f
             × (suc (yet M i (aim M r) (away M r) (owner-of s) (holds-of s′) (r .waiting - 1)) ≡ left-of M s i r)
-        both =
-            fill-feed M i (aim M r) (away M r) (owner-of s) (next-of s) (holds-of s) (r .flits) (r .waiting) (r .eaten) q f S (H .fill) (holds-of s′)
-            some room u
+        both = fill-feed S (H .fill) some room u
 
     -- from channel k to its next, y
     follow-law : (k y : ℕ) → owner-of s k ≡ suc i → 1 ≤ holds-of s k → next-of s k ≡ suc y → holds-of s y < M .depth → Kept M i s r (follow s r k)
@@ -169,9 +163,7 @@ module _ (M : Network) (s : Sections) (rs : List Record) (I : Invariant M s rs) 
 
         both : Fill M i (aim M r) (away M r) (owner-of s) (holds-of s²) (r .flits) (r .waiting) (r .eaten) q f
             × (suc (left-of M s² i r) ≡ left-of M s i r) × ((j : ℕ) → j ≢ k → holds-of s j ≤ holds-of s² j)
-        both =
-            fill-follow M i (aim M r) (away M r) (owner-of s) (next-of s) (holds-of s) (r .flits) (r .waiting) (r .eaten) q f S (H .fill)
-            (holds-of s¹) (holds-of s²) k y mine nx some (omega (arith, u1 .off y apart)) u1 u2
+        both = fill-follow S (H .fill) mine nx some (omega (arith, u1 .off y apart)) u1 u2
 
     -- from the front to channel t
     advance-law : (t : ℕ) → 1 ≤ holds-of s f → owner-of s t ≡ 0 → Ahead M (aim M r) (gap M (aim M r) f) t → M .rank f < M .rank t
@@ -187,7 +179,7 @@ module _ (M : Network) (s : Sections) (rs : List Record) (I : Invariant M s rs) 
         (record {
           rear = H .rear;
           front = omega arith;
-          shape = shape-advance M i (aim M r) (owner-of s) (next-of s) (owner-of s¹) (next-of sb) (next-of s¹) q f t S z uo ux1 ux2 A up;
+          shape = shape-advance S z uo ux1 ux2 A up;
           fill = both .0;
         })
         (uo .off f apart ∙ S .front)
@@ -244,9 +236,7 @@ module _ (M : Network) (s : Sections) (rs : List Record) (I : Invariant M s rs) 
 
         both : Fill M i (aim M r) (away M r) (owner-of s¹) (holds-of s¹) (r .flits) (r .waiting) (r .eaten) q t
             × (suc (left-of M s¹ i r) ≡ left-of M s i r) × ((j : ℕ) → owner-of s j ≡ suc i → j ≢ f → holds-of s¹ j ≡ holds-of s j)
-        both =
-            fill-advance M i (aim M r) (away M r) (owner-of s) (next-of s) (holds-of s) (r .flits) (r .waiting) (r .eaten) q f S (H .fill)
-            (owner-of s¹) (holds-of sb) (holds-of s¹) t z A some uo uh1 uh2
+        both = fill-advance S (H .fill) z A some uo uh1 uh2
 
     -- from the front to the destination
     eat-law : gap M (aim M r) f ≡ 0 → 1 ≤ holds-of s f → Kept M i s r (eat s r)
@@ -269,9 +259,7 @@ module _ (M : Network) (s : Sections) (rs : List Record) (I : Invariant M s rs) 
 
         both : Fill M i (aim M r) (away M r) (owner-of s) (holds-of s¹) (r .flits) (r .waiting) (r .eaten + 1) q f
             × (suc (left-of M s¹ i r) ≡ left-of M s i r)
-        both =
-            fill-eat M i (aim M r) (away M r) (owner-of s) (next-of s) (holds-of s) (r .flits) (r .waiting) (r .eaten) q f S (H .fill) (holds-of s¹)
-            here some u
+        both = fill-eat S (H .fill) here some u
 
         L : Left M i f s¹ (bite r) t
         L =
@@ -291,7 +279,7 @@ module _ (M : Network) (s : Sections) (rs : List Record) (I : Invariant M s rs) 
         ended all (gone z a nothing) = nothing
         ended all (still q′ f′ H′ full′) =
             let l = M .below q′ (H′ .shape .at q′ (H′ .shape .rear) .real) in
-            let g = load-ge (M .numbers) (owner-of (t .words)) (holds-of (t .words)) i one q′ l (H′ .shape .rear) in
+            let g = load-at-least (M .numbers) i one (owner-of (t .words)) (holds-of (t .words)) q′ l (H′ .shape .rear) in
             let a = H′ .fill .sum in
             absurd (omega (arith, full′ (omega arith)))
 

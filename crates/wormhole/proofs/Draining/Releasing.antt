@@ -12,7 +12,7 @@ use mir.Facts.{and-yes, yes-and, yes-eqb}
 use Rattle.route.specs.Grid.{pick}
 use Rattle.wormhole.specs.declared.records.Record.{Record}
 use Rattle.wormhole.specs.Memory.{Sections, owner-of, holds-of, next-of, own, hold, link, put, anew}
-use Rattle.wormhole.specs.Steps.{Stepped, stepped, release, leave}
+use Rattle.wormhole.specs.Steps.{Stepped, stepped, shortened, release, leave}
 use Rattle.wormhole.proofs.Draining.Picks.{picked, passed, decided}
 use Rattle.wormhole.proofs.Draining.Network.{Network}
 use Rattle.wormhole.proofs.Draining.Sums.{Upd}
@@ -48,20 +48,18 @@ module _ (M : Network) (i k front : ℕ) (s : Sections) (r : Record) (q f : ℕ)
   released qk w z =
       record {
         frame = frame-put i s k 0 0 0 lo lh lx (λ a b. b mine) (λ a b. a refl) (λ a. (refl, refl));
-        rear = next-of s k;
-        front = pick (eqb front (k + 1) && eqb (next-of s k) 0) 0 (r .front);
+        rear = r′ .rear;
+        front = r′ .front;
         is = refl;
         after = after (next-of s k) refl;
-        same =
-            yet-shorten M i (aim M r) (away M r) (owner-of s) (next-of s) (holds-of s) (r .flits) (r .waiting) (r .eaten) k f S F
-            (owner-of s′) (holds-of s′) w z uo uh;
+        same = yet-shorten S F w z uo uh;
       }
     where
       s′ : Sections
       s′ = put s k 0 0 0
 
       r′ : Record
-      r′ = anew r (r .waiting) (r .eaten) (next-of s k) (pick (eqb front (k + 1) && eqb (next-of s k) 0) 0 (r .front))
+      r′ = shortened r k front (next-of s k)
 
       uo : Upd (owner-of s) (owner-of s′) k 0
       uo = stored (s .owner) k 0 refl lo
@@ -78,27 +76,18 @@ module _ (M : Network) (i k front : ℕ) (s : Sections) (r : Record) (q f : ℕ)
       F : Fill M i (aim M r) (away M r) (owner-of s) (holds-of s) (r .flits) (r .waiting) (r .eaten) k f
       F = rw qk at (H .fill)
 
+      -- the front stays, since there is a next
+      front-stays : (y : ℕ) → next-of s k ≡ suc y → r′ .front ≡ r .front
+      front-stays y e =
+          passed (eqb front (k + 1) && eqb (next-of s k) 0) 0 (r .front)
+          (λ t. omega (arith, e, eqb→eq (next-of s k) 0 (and-yes (eqb front (k + 1)) (eqb (next-of s k) 0) t .1)))
+
       after : (next : ℕ) → next-of s k ≡ next → After M s′ i r′ (next-of s k)
-      after zero e =
-          let nothing = shape-end M i (aim M r) (owner-of s) (next-of s) (owner-of s′) k f S e uo in
-          gone e
-          (fill-end M i (aim M r) (away M r) (owner-of s) (next-of s) (holds-of s) (r .flits) (r .waiting) (r .eaten) k f S F
-          (owner-of s′) (holds-of s′) w z uo uh nothing)
-          nothing
+      after zero e = let nothing = shape-end S e uo in gone e (fill-end S F w z uo uh nothing) nothing
       after (suc y) e =
-          let Sy = shape-shorten M i (aim M r) (owner-of s) (next-of s) (owner-of s′) (next-of s′) k f y S e uo ux in
+          let Sy = shape-shorten S e uo ux in
           still y f
-          (record {
-            rear = e;
-            front =
-                passed (eqb front (k + 1) && eqb (next-of s k) 0) 0 (r .front)
-                (λ t. omega (arith, e, eqb→eq (next-of s k) 0 (and-yes (eqb front (k + 1)) (eqb (next-of s k) 0) t .1)))
-                ∙ H .front;
-            shape = Sy;
-            fill =
-                fill-shorten M i (aim M r) (away M r) (owner-of s) (next-of s) (holds-of s) (r .flits) (r .waiting) (r .eaten) k f S F
-                (owner-of s′) (holds-of s′) w z uo uh y e;
-          })
+          (record { rear = omega (arith, e); front = omega (arith, front-stays y e, H .front); shape = Sy; fill = fill-shorten S F w z uo uh e })
           (λ v. omega (arith, next-full y e, uh .off y (λ p. omega (arith, ap (owner-of s′) p, uo .at, Sy .rear))))
 
   -- a packet with nothing at the source has a flit in its rear, but for the channel that a flit has left

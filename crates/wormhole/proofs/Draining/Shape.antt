@@ -26,29 +26,29 @@ pub record Ahead (M : Network) (g : Place) (away t : ℕ) : Type 0 where
   pub closer : suc (gap M g t) ≡ away
   pub on : Way M g t
 
-module _ (M : Network) (i : ℕ) (g : Place) where
-  -- channel k of packet i, whose rear is q and whose front is f
-  pub record Chan (own next : ℕ → ℕ) (q f k : ℕ) : Type 0 where
-    pub real : T (M .exists k)
-    pub last : next k ≡ 0 → k ≡ f
-    pub nearer : (y : ℕ) → next k ≡ suc y → (own y ≡ suc i) × (suc (gap M g y) ≡ gap M g k)
-    pub below : gap M g k ≤ gap M g q
-    pub above : gap M g f ≤ gap M g k
-    pub rank : M .rank k ≤ M .rank f
+-- channel k of packet i, whose rear is q and whose front is f
+pub record Chan (M : Network) (i : ℕ) (g : Place) (own next : ℕ → ℕ) (q f k : ℕ) : Type 0 where
+  pub real : T (M .exists k)
+  pub last : next k ≡ 0 → k ≡ f
+  pub nearer : (y : ℕ) → next k ≡ suc y → (own y ≡ suc i) × (suc (gap M g y) ≡ gap M g k)
+  pub below : gap M g k ≤ gap M g q
+  pub above : gap M g f ≤ gap M g k
+  pub rank : M .rank k ≤ M .rank f
 
-  pub record Shape (own next : ℕ → ℕ) (q f : ℕ) : Type 0 where
-    pub rear : own q ≡ suc i
-    pub front : own f ≡ suc i
-    pub end : next f ≡ 0
-    pub at : (k : ℕ) → own k ≡ suc i → Chan own next q f k
-    pub one : (k j : ℕ) → own k ≡ suc i → own j ≡ suc i → gap M g k ≡ gap M g j → k ≡ j
-    pub way : Way M g f
+pub record Shape (M : Network) (i : ℕ) (g : Place) (own next : ℕ → ℕ) (q f : ℕ) : Type 0 where
+  pub rear : own q ≡ suc i
+  pub front : own f ≡ suc i
+  pub end : next f ≡ 0
+  pub at : (k : ℕ) → own k ≡ suc i → Chan M i g own next q f k
+  pub one : (k j : ℕ) → own k ≡ suc i → own j ≡ suc i → gap M g k ≡ gap M g j → k ≡ j
+  pub way : Way M g f
 
+module _ {M : Network} {i : ℕ} {g : Place} where
   -- nothing of packet i has changed
-  pub shape-kept : (own next own′ next′ : ℕ → ℕ) (q f : ℕ)
+  pub shape-kept : {own next own′ next′ : ℕ → ℕ} {q f : ℕ}
       → ((k : ℕ) → own k ≡ suc i → (own′ k ≡ suc i) × (next′ k ≡ next k)) → ((k : ℕ) → own′ k ≡ suc i → own k ≡ suc i)
-      → Shape own next q f → Shape own′ next′ q f
-  shape-kept own next own′ next′ q f keep back S =
+      → Shape M i g own next q f → Shape M i g own′ next′ q f
+  shape-kept {own} {next} {own′} {next′} {q} {f} keep back S =
       record {
         rear = keep q (S .rear) .0;
         front = keep f (S .front) .0;
@@ -69,9 +69,9 @@ module _ (M : Network) (i : ℕ) (g : Place) where
       }
 
   -- the first channel, t
-  pub shape-start : (own own′ next′ : ℕ → ℕ) (away t : ℕ) → ((k : ℕ) → own k ≢ suc i)
-      → Upd own own′ t (suc i) → next′ t ≡ 0 → Ahead M g away t → Shape own′ next′ t t
-  shape-start own own′ next′ away t nothing u z A =
+  pub shape-start : {own own′ next′ : ℕ → ℕ} {away t : ℕ} → ((k : ℕ) → own k ≢ suc i)
+      → Upd own own′ t (suc i) → next′ t ≡ 0 → Ahead M g away t → Shape M i g own′ next′ t t
+  shape-start {own} {own′} {next′} {away} {t} nothing u z A =
       record {
         rear = u .at;
         front = u .at;
@@ -85,7 +85,7 @@ module _ (M : Network) (i : ℕ) (g : Place) where
       is k e (yes p) = p
       is k e (no ne) = absurd (nothing k (sym (u .off k ne) ∙ e))
 
-      here : Chan own′ next′ t t t
+      here : Chan M i g own′ next′ t t t
       here =
           record {
             real = A .real;
@@ -97,10 +97,10 @@ module _ (M : Network) (i : ℕ) (g : Place) where
           }
 
   -- the front moves on to t, which was free
-  pub shape-advance : (own next own′ next¹ next² : ℕ → ℕ) (q f t : ℕ) → Shape own next q f → own t ≡ 0
+  pub shape-advance : {own next own′ next¹ next² : ℕ → ℕ} {q f t : ℕ} → Shape M i g own next q f → own t ≡ 0
       → Upd own own′ t (suc i) → Upd next next¹ f (suc t) → Upd next¹ next² t 0 → Ahead M g (gap M g f) t → M .rank f < M .rank t
-      → Shape own′ next² q t
-  shape-advance own next own′ next¹ next² q f t S z uo u1 u2 A up =
+      → Shape M i g own′ next² q t
+  shape-advance {own} {next} {own′} {next¹} {next²} {q} {f} {t} S z uo u1 u2 A up =
       record {
         rear = keep q (S .rear);
         front = uo .at;
@@ -119,10 +119,10 @@ module _ (M : Network) (i : ℕ) (g : Place) where
       closer : suc (gap M g t) ≡ gap M g f
       closer = A .closer
 
-      at-f : Chan own next q f f
+      at-f : Chan M i g own next q f f
       at-f = S .at f (S .front)
 
-      here : Chan own′ next² q t t
+      here : Chan M i g own′ next² q t t
       here =
           let b : gap M g f ≤ gap M g q = at-f .below in
           record {
@@ -134,7 +134,7 @@ module _ (M : Network) (i : ℕ) (g : Place) where
             rank = omega arith;
           }
 
-      at-front : Chan own′ next² q t f
+      at-front : Chan M i g own′ next² q t f
       at-front =
           let e : next² f ≡ suc t = u2 .off f (other f (S .front)) ∙ u1 .at in
           record {
@@ -148,7 +148,7 @@ module _ (M : Network) (i : ℕ) (g : Place) where
             rank = omega arith;
           }
 
-      at : (k : ℕ) → own′ k ≡ suc i → Dec (k ≡ t) → Dec (k ≡ f) → Chan own′ next² q t k
+      at : (k : ℕ) → own′ k ≡ suc i → Dec (k ≡ t) → Dec (k ≡ f) → Chan M i g own′ next² q t k
       at k e (yes p) p′ = rw p here
       at k e (no ne) (yes p) = rw p at-front
       at k e (no ne) (no nf) =
@@ -173,9 +173,9 @@ module _ (M : Network) (i : ℕ) (g : Place) where
       one k j ek ej (no ne) (no ne′) e = S .one k j (sym (uo .off k ne) ∙ ek) (sym (uo .off j ne′) ∙ ej) e
 
   -- the rear is given up; its next, y, is the rear then
-  pub shape-shorten : (own next own′ next′ : ℕ → ℕ) (q f y : ℕ) → Shape own next q f → next q ≡ suc y
-      → Upd own own′ q 0 → Upd next next′ q 0 → Shape own′ next′ y f
-  shape-shorten own next own′ next′ q f y S e uo un =
+  pub shape-shorten : {own next own′ next′ : ℕ → ℕ} {q f y : ℕ} → Shape M i g own next q f → next q ≡ suc y
+      → Upd own own′ q 0 → Upd next next′ q 0 → Shape M i g own′ next′ y f
+  shape-shorten {own} {next} {own′} {next′} {q} {f} {y} S e uo un =
       record {
         rear = keep y (near .0) not-y;
         front = keep f (S .front) not-f;
@@ -203,7 +203,7 @@ module _ (M : Network) (i : ℕ) (g : Place) where
       back : (k : ℕ) → own′ k ≡ suc i → own k ≡ suc i
       back k o = sym (uo .off k (other k o)) ∙ o
 
-      at : (k : ℕ) → own′ k ≡ suc i → Chan own′ next′ y f k
+      at : (k : ℕ) → own′ k ≡ suc i → Chan M i g own′ next′ y f k
       at k o =
           let C = S .at k (back k o) in
           let en : next′ k ≡ next k = un .off k (other k o) in
@@ -220,9 +220,9 @@ module _ (M : Network) (i : ℕ) (g : Place) where
           }
 
   -- the rear was the last channel, and is given up: the packet has none
-  pub shape-end : (own next own′ : ℕ → ℕ) (q f : ℕ) → Shape own next q f → next q ≡ 0 → Upd own own′ q 0
+  pub shape-end : {own next own′ : ℕ → ℕ} {q f : ℕ} → Shape M i g own next q f → next q ≡ 0 → Upd own own′ q 0
       → (k : ℕ) → own′ k ≢ suc i
-  shape-end own next own′ q f S e uo k o =
+  shape-end {own} {next} {own′} {q} {f} S e uo k o =
       let ne : k ≢ q = λ p. omega (arith, ap own′ p, uo .at, o) in
       let b : own k ≡ suc i = sym (uo .off k ne) ∙ o in
       let C = S .at k b in
