@@ -40,6 +40,10 @@ movings (v ∷ vs) = moving v ∷ movings vs
 abbrev pub empty : ℕ → ℕ → ℕ → Lent
 empty C R count = record { words = replicate (needed C R) 0; records = replicate count none }
 
+-- every record passes
+abbrev pub any : ℕ → Bool
+any i = true
+
 -- the moves that a packet owes: flits × (distance + 1)
 abbrev pub owes : ℕ → ℕ → ℕ → ℕ → ℕ
 owes C a b f = f * (dist (place-of C a) (place-of C b) + 1)
@@ -81,7 +85,7 @@ module _ (C R rule : ℕ) where
 
   -- how many moves of a list are accepted
   abbrev pub accepted : Lent → List Move → ℕ
-  accepted M vs = total (makes (λ i. true)) M (movings vs)
+  accepted M vs = total (makes any) M (movings vs)
 
 -- ---- after the calls of a list on the empty mesh
 module _ (C R rule count : ℕ) (cs : List Call) where
@@ -91,24 +95,28 @@ module _ (C R rule count : ℕ) (cs : List Call) where
 
   -- the moves owed by the packets that were accepted
   abbrev pub work : ℕ
-  work = total C R rule (brings C R rule (λ i. true)) (empty C R count) cs
+  work = total C R rule (brings C R rule any) (empty C R count) cs
 
   -- the moves that were accepted
   abbrev pub made : ℕ
-  made = total C R rule (makes C R rule (λ i. true)) (empty C R count) cs
+  made = total C R rule (makes C R rule any) (empty C R count) cs
+
+  -- N: those that are still to make
+  abbrev pub remaining : ℕ
+  remaining = work - made
 
   -- the demand
   pub record Drains : Type 0 where
-    -- (a) memory is in range, and no more was made than is owed; the difference is N
+    -- (a) memory is in range, and no more moves were made than are owed
     pub ranged : T (fits C R rule (now .words) (now .records))
     pub enough : made ≤ work
     -- (b) while a record is live, some move is accepted
     pub goes-on : (i : ℕ) → getD (now .records) i none .live ≢ 0 → (v : Move) × (moves C R rule now v .answer ≡ 0)
     -- (c) of any further moves at most N are accepted, and N exactly if the mesh is then empty
-    pub at-most : (vs : List Move) → accepted C R rule now vs ≤ work - made
-    pub exactly : (vs : List Move) → (accepted C R rule now vs ≡ work - made) ↔ (run C R rule now (movings vs) ≡ empty C R count)
-    -- (d) a packet that is accepted now, whatever calls come later: until its record is another's it makes at most the moves that it owes, and
-    -- all of them exactly if its record is then empty
+    pub at-most : (vs : List Move) → accepted C R rule now vs ≤ remaining
+    pub exactly : (vs : List Move) → (accepted C R rule now vs ≡ remaining) ↔ (run C R rule now (movings vs) ≡ empty C R count)
+    -- (d) a packet that is accepted now, whatever calls come later that give its record to no other: it makes at most the moves that it owes,
+    -- and all of them exactly if its record is then empty
     pub each : (a b f : ℕ) (later : List Call)
         → let i = offers C R rule now a b f .answer .«record» in
         let then = after C R rule now (offering a b f) in
@@ -116,7 +124,7 @@ module _ (C R rule count : ℕ) (cs : List Call) where
         offers C R rule now a b f .answer .refusal ≡ 0 → total C R rule (brings C R rule (eqb i)) then later ≡ 0
         → (its ≤ owes C a b f) × ((its ≡ owes C a b f) ↔ (getD (run C R rule then later .records) i none ≡ none))
     -- (e) some N moves, each accepted, empty the mesh
-    pub finishes : (vs : List Move) × (length vs ≡ work - made) × (accepted C R rule now vs ≡ work - made) × (run C R rule now (movings vs) ≡ empty C R count)
+    pub finishes : (vs : List Move) × (length vs ≡ remaining) × (accepted C R rule now vs ≡ remaining) × (run C R rule now (movings vs) ≡ empty C R count)
 
 -- for every size, each of the five rules, every number of records, and all calls
 abbrev pub Demand : Type 0

@@ -9,9 +9,12 @@ use native.Mathlib.Omega.{arith}
 use lib.Dec.{eqb, eqb→eq, eqb-refl}
 use lib.ListN.{length, getD, replicate, length-replicate}
 use Rattle.route.specs.Numbers.{rule-of, channels}
+use Rattle.route.specs.Served.{unless}
+use Rattle.wormhole.specs.declared.records.Record.{Record}
 use Rattle.wormhole.specs.Memory.{Sections, net, sections, joined, none}
-use Rattle.wormhole.specs.Calls.{needed, lowest, bad-size}
-use Rattle.wormhole.specs.Drains.{Lent, Move, Call, offering, moving, movings, empty, owes, offers, after, run, brings, makes, total, accepted, now, work, made, Drains, Demand}
+use Rattle.wormhole.specs.Calls.{left, needed, lowest, bad-size, reset}
+use Rattle.wormhole.specs.Drains.{Lent, Move, Call, offering, moving, movings, empty, any, owes, offers, after, run, brings, makes, total, accepted, now, work, made, remaining, Drains, Demand}
+use Rattle.wormhole.proofs.Refusing.{sized}
 use Rattle.wormhole.proofs.Sections.{rejoined}
 use Rattle.wormhole.proofs.Draining.Picks.{picked}
 use Rattle.wormhole.proofs.Draining.Network.{Network}
@@ -20,10 +23,6 @@ use Rattle.wormhole.proofs.Draining.Meshes.{house-ranked, one-deep, rea
 use Rattle.wormhole.proofs.Draining.Ranging.{ranges}
 use Rattle.wormhole.proofs.Draining.Answers as answers
 use Rattle.wormhole.proofs.Draining.Accounts.{unused-of, Good, owed, called, some-move}
-
--- every record passes
-abbrev any : ℕ → Bool
-any i = true
 
 module _ (C R rule count : ℕ) where
   abbrev M : Network
@@ -155,9 +154,21 @@ module _ (C R rule count : ℕ) where
               (λ e. omega (arith, even, runs-moves m G vs, ap (owed C R rule any) e, owed-empty any)),
             );
             each = λ a b f later e z. its-own a b f e later z;
-            finishes = finish (work C R rule count cs - made C R rule count cs) m G (omega (arith, even));
+            finishes = finish (remaining C R rule count cs) m G (omega (arith, even));
           }
 
 -- the theorem
 pub drains : Demand
 drains C R rule count c c′ r r′ k o o′ cs = after-any C R rule count (answers.sizes-served C R rule count c c′ r r′ k o o′) cs
+
+-- a mesh that a reset was accepted for is the empty one, whatever memory held
+pub reset-empties : (C R : ℕ) (w : List ℕ) (rs : List Record) → let o = reset C R w rs in o .answer ≡ 0
+    → record { words = o .words; records = o .records } ≡ empty C R (length rs)
+unfolding reset
+reset-empties C R w rs = by (bad-size C R 0 (length w) (length rs)) refl
+  where
+    by : (k : ℕ) → bad-size C R 0 (length w) (length rs) ≡ k
+        → let o = unless (λ c. left c w rs) k (left 0 (replicate (length w) 0) (replicate (length rs) none)) in o .answer ≡ 0
+        → record { words = o .words; records = o .records } ≡ empty C R (length rs)
+    by zero e z = rw (sized C R 0 (length w) (length rs) (sym e) refl .long) refl
+    by (suc k) e z = absurd (omega (arith, z))
