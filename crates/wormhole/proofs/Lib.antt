@@ -1,5 +1,5 @@
 -- The proofs that belong to no one function, each after those that it rests on. Walks is for the functions over the lent records, which are
--- walked by hand; what stands after it is for the others.
+-- walked by hand; what stands after it is for the others. Draining is of all calls together.
 pub mod Walks
 mod Data
 mod Every

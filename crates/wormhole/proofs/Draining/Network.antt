@@ -1,5 +1,5 @@
--- All that the machine may know of the routing part: a network and its promises. The files from here to Emptying rest on nothing else of
--- routing; Meshes keeps the promises for the real mesh. Assumes nothing.
+-- All that the machine may know of the routing part: a network and its promises. Of routing the files from here to Emptying name
+-- nothing else but its types; Meshes keeps the promises for the real mesh. Assumes nothing.
 use Prim.Native.Nat.{ℕ, suc, _≤_, _<_}
 use mathlib.Core.Path.{_≡_}
 use mathlib.Core.Bool.{Bool}
