@@ -2,11 +2,13 @@
 use Prim.Native.Nat.{ℕ, zero, suc, _+_, _*_, _≤_, _<_}
 use mathlib.Core.Path.{_≡_, refl, sym, _∙_}
 use mathlib.Core.Bool.{Bool, true, false, not, _&&_, _||_, and-false}
+use mathlib.Core.Logic.{_↔_}
 use mathlib.Core.List.{List}
 use native.Mathlib.Omega.{arith}
-use lib.Dec.{leb, ltb, eqb}
+use lib.Dec.{T, leb, ltb, eqb}
 use lib.ListN.{length, replicate}
-use borrow.Author.Tests.{not-true, not-false, eq-eqb, ne-eqb, le-leb, lt-leb, eqb-true, leb-true, ltb-true, lt-ltb, le-ltb}
+use mir.Facts.{and-yes, ltb-yes, leb-yes, eqb-yes}
+use borrow.Author.Tests.{not-true, not-false, eq-eqb, ne-eqb, le-leb, lt-leb, lt-ltb, le-ltb}
 use Rattle.route.specs.Grid.{pick}
 use Rattle.route.specs.Numbers.{channels}
 use Rattle.route.specs.Served.{unless, bad-mesh}
@@ -17,6 +19,26 @@ use Rattle.wormhole.specs.Memory.{net, sections, none, fresh}
 use Rattle.wormhole.specs.Range.{words-fit, flits-served}
 use Rattle.wormhole.specs.Calls.{needed, offered, bad-size, bad-memory, bad-packet, bad-offer}
 use Rattle.wormhole.specs.Coded.{wiped, wiped-words, placed}
+
+-- ---- refusals one after another
+-- there is none exactly if none comes first and none after it
+pub none-first : (j k : ℕ) → (unless (λ i. i) j k ≡ 0) ↔ ((j ≡ 0) × (k ≡ 0))
+none-first zero k = (λ e. (refl, e), λ e. e .1)
+none-first (suc j) k = (λ e. absurd (omega arith), λ e. e .0)
+
+-- of a test that must hold there is none exactly if it does and none comes after it
+pub none-if : (b : Bool) (j k : ℕ) → (pick b k (suc j) ≡ 0) ↔ (T b × (k ≡ 0))
+none-if true j k = (λ e. (tt, e), λ h. h .1)
+none-if false j k = (λ e. absurd (omega arith), λ h. absurd (h .0))
+
+-- of one that must not hold there is none only if it does not
+pub none-unless : (b : Bool) (j k : ℕ) → pick b (suc j) k ≡ 0 → T (not b) × (k ≡ 0)
+none-unless true j k e = absurd (omega arith)
+none-unless false j k e = (tt, e)
+
+is-true : (b : Bool) → T b → b ≡ true
+is-true true t = refl
+is-true false t = absurd t
 
 -- ---- the mesh and the sizes
 module _ (C R rule words records : ℕ) {k : ℕ} (hk : k ≡ bad-mesh C R rule) where
@@ -46,21 +68,12 @@ pub record Sized (C R rule words records : ℕ) : Type 0 where
 
 -- what no refusal has taught
 pub sized : (C R rule words records : ℕ) {k : ℕ} → k ≡ bad-size C R rule words records → k ≡ 0 → Sized C R rule words records
-sized C R rule words records hk h = at (bad-mesh C R rule) refl (sym hk ∙ h)
-  where
-    sizes : (x y z : Bool) → eqb words (needed C R) ≡ x → leb 1 records ≡ y → leb records 64 ≡ z → _≡_ {A = ℕ} (pick (x && (y && z)) 0 7) 0
-        → (words ≡ needed C R) × (1 ≤ records) × (records ≤ 64)
-    sizes true true true p q r e = (eqb-true words (needed C R) p, leb-true 1 records q, leb-true records 64 r)
-    sizes true true false p q r e = absurd (omega arith)
-    sizes true false z p q r e = absurd (omega arith)
-    sizes false y z p q r e = absurd (omega arith)
-
-    at : (j : ℕ) → bad-mesh C R rule ≡ j → unless (λ i. i) j (pick (eqb words (needed C R) && (leb 1 records && leb records 64)) 0 7) ≡ 0
-        → Sized C R rule words records
-    at (suc j) q e = absurd (omega arith)
-    at zero q e =
-        let s = sizes (eqb words (needed C R)) (leb 1 records) (leb records 64) refl refl refl e in
-        record { mesh = served C R rule (sym q) refl; long = s .0; some = s .1; few = s .2 }
+sized C R rule words records hk h =
+    let z = none-first (bad-mesh C R rule) _ .0 (sym hk ∙ h) in
+    let few = leb 1 records && leb records 64 in
+    let s = and-yes (eqb words (needed C R)) few (none-if (eqb words (needed C R) && few) 6 0 .0 (z .1) .0) in
+    let c = and-yes (leb 1 records) (leb records 64) (s .1) in
+    record { mesh = served C R rule (sym (z .0)) refl; long = eqb-yes (s .0); some = leb-yes (c .0); few = leb-yes (c .1) }
 
 -- ---- and whether it is in range
 module _ (C R rule words records : ℕ) {k : ℕ} (hk : k ≡ bad-size C R rule words records) where
@@ -81,12 +94,9 @@ module _ (C R rule words records : ℕ) {k : ℕ} (hk : k ≡ bad-size C R rule 
 -- what no refusal has taught
 pub fitting : (C R rule words records : ℕ) (fits : Bool) {k : ℕ} → k ≡ bad-memory C R rule words records fits → k ≡ 0
     → Sized C R rule words records × (fits ≡ true)
-fitting C R rule words records fits hk h = at (bad-size C R rule words records) fits refl refl (sym hk ∙ h)
-  where
-    at : (j : ℕ) (x : Bool) → bad-size C R rule words records ≡ j → fits ≡ x → unless (λ i. i) j (pick x 0 9) ≡ 0 → Sized C R rule words records × (fits ≡ true)
-    at (suc j) x q p e = absurd (omega arith)
-    at zero true q p e = (sized C R rule words records (sym q) refl, p)
-    at zero false q p e = absurd (omega arith)
+fitting C R rule words records fits hk h =
+    let z = none-first (bad-size C R rule words records) _ .0 (sym hk ∙ h) in
+    (sized C R rule words records (sym (z .0)) refl, is-true fits (none-if fits 8 0 .0 (z .1) .0))
 
 -- ---- a packet
 module _ (C R a b f : ℕ) {j : ℕ} where
@@ -128,14 +138,12 @@ pub record Room (empty records : ℕ) : Type 0 where
 pub offering : (C R rule words records : ℕ) (fits : Bool) (empty a b f : ℕ) {k : ℕ} → k ≡ bad-offer C R rule words records fits empty a b f → k ≡ 0
     → Room empty records
 offering C R rule words records fits empty a b f hk h =
-    at (bad-memory C R rule words records fits) (bad-packet C R a b f) (ltb empty records) refl refl refl (sym hk ∙ h)
-  where
-    at : (i j : ℕ) (x : Bool) → bad-memory C R rule words records fits ≡ i → bad-packet C R a b f ≡ j → ltb empty records ≡ x
-        → unless (λ k. k) i (unless (λ k. k) j (pick x 0 10)) ≡ 0 → Room empty records
-    at (suc i) j x p q r e = absurd (omega arith)
-    at zero (suc j) x p q r e = absurd (omega arith)
-    at zero zero false p q r e = absurd (omega arith)
-    at zero zero true p q r e = record { below = ltb-true empty records r; few = fitting C R rule words records fits (sym p) refl .0 .few }
+    let memory = none-first (bad-memory C R rule words records fits) _ .0 (sym hk ∙ h) in
+    let full = none-first (bad-packet C R a b f) _ .0 (memory .1) .1 in
+    record {
+      below = ltb-yes (none-if (ltb empty records) 9 0 .0 full .0);
+      few = fitting C R rule words records fits (sym (memory .0)) refl .0 .few;
+    }
 
 module _ (C R rule : ℕ) (w : List ℕ) (s : Found) (records a b f : ℕ) {k : ℕ}
     (hk : k ≡ bad-offer C R rule (length w) records (words-fit (net C R rule) records (sections (channels C R) w) && s .fit) (s .empty) a b f) where

@@ -4,8 +4,7 @@ use Prim.Native.Nat.{ℕ, zero, suc, _*_, _≤_, _<_}
 use mathlib.Core.Path.{_≡_, refl, sym, _∙_}
 use mathlib.Core.Bool.{Bool, true, false, not, _&&_, _||_}
 use mathlib.Core.List.{List, [], _∷_}
-use mathlib.Core.Logic.{_≢_, _↔_}
-use native.Mathlib.Omega.{arith}
+use mathlib.Core.Logic.{_≢_}
 use lib.Dec.{T, leb, ltb, eqb}
 use lib.ListN.{length, set, getD}
 use mir.Facts.{and-yes, yes-and, or-no, T-not-not, ltb-yes, leb-yes, leb-no, eqb-yes, eqb-no, yes-ltb, yes-eqb}
@@ -20,7 +19,7 @@ use Rattle.wormhole.specs.Memory.{net, sections, joined, none, fresh}
 use Rattle.wormhole.specs.Range.{flits-served}
 use Rattle.wormhole.specs.Steps.{known, may, act}
 use Rattle.wormhole.specs.Calls.{Left, left, offered, needed, bad-size, bad-memory, fits, lowest, bad-packet, bad-offer, offer, bad-move, move}
-use Rattle.wormhole.proofs.Refusing.{size-good, offering}
+use Rattle.wormhole.proofs.Refusing.{none-first, none-if, none-unless, size-good, offering}
 
 -- ---- refusals
 -- what a call answers is its refusal
@@ -28,21 +27,6 @@ answers : {A : Type 0} (code : A → ℕ) (refuse : ℕ → A) (served : A) → 
     → (k : ℕ) → code (unless refuse k served) ≡ k
 answers code refuse served given free zero = free
 answers code refuse served given free (suc k) = given (suc k)
-
--- there is none exactly if none comes first and none after it
-none-first : (j k : ℕ) → (unless (λ i. i) j k ≡ 0) ↔ ((j ≡ 0) × (k ≡ 0))
-none-first zero k = (λ e. (refl, e), λ e. e .1)
-none-first (suc j) k = (λ e. absurd (omega arith), λ e. e .0)
-
--- of a test that must hold there is none exactly if it does and none comes after it
-holds : (b : Bool) (j k : ℕ) → (pick b k (suc j) ≡ 0) ↔ (T b × (k ≡ 0))
-holds true j k = (λ e. (tt, e), λ h. h .1)
-holds false j k = (λ e. absurd (omega arith), λ h. absurd (h .0))
-
--- of one that must not hold there is none only if it does not
-fails : (b : Bool) (j k : ℕ) → pick b (suc j) k ≡ 0 → T (not b) × (k ≡ 0)
-fails true j k e = absurd (omega arith)
-fails false j k e = (tt, e)
 
 -- the lowest empty record is not live, nor is what is read where none is empty
 lowest-unused : (l : List Record) → getD l (lowest l) none .live ≡ 0
@@ -97,9 +81,9 @@ module _ (C R rule : ℕ) (w : List ℕ) (rs : List Record) where
     unfolding move
     moved e =
         let z : move-refusal ≡ 0 = sym move-answers ∙ e in
-        let asked = holds (ltb i (length rs) && nameable) 12 (pick (living && allowable) 0 8) .0 (none-first memory _ .0 z .1) in
+        let asked = none-if (ltb i (length rs) && nameable) 12 (pick (living && allowable) 0 8) .0 (none-first memory _ .0 z .1) in
         let named = and-yes (ltb i (length rs)) nameable (asked .0) in
-        let able = and-yes living allowable (holds (living && allowable) 7 0 .0 (asked .1) .0) in
+        let able = and-yes living allowable (none-if (living && allowable) 7 0 .0 (asked .1) .0) in
         record { low = ltb-yes (named .0); known = named .1; live = eqb-yes (able .0); may = able .1; words = rw z refl; records = rw z refl }
 
     -- one was given: nothing was stored
@@ -113,9 +97,9 @@ module _ (C R rule : ℕ) (w : List ℕ) (rs : List Record) where
         → getD rs i none .live ≡ 1 → T (may (net C R rule) (sections (channels C R) w) i (getD rs i none) kind k d)
         → move C R rule w rs i kind k d .answer ≡ 0
     accepted size fit low named live can =
-        let fitting = none-first (bad-size C R rule (length w) (length rs)) _ .1 (size, holds (fits C R rule w rs) 8 0 .1 (fit, refl)) in
-        let able = holds (living && allowable) 7 0 .1 (yes-and living allowable (yes-eqb live) can, refl) in
-        let asked = holds (ltb i (length rs) && nameable) 12 _ .1 (yes-and (ltb i (length rs)) nameable (yes-ltb low) named, able) in
+        let fitting = none-first (bad-size C R rule (length w) (length rs)) _ .1 (size, none-if (fits C R rule w rs) 8 0 .1 (fit, refl)) in
+        let able = none-if (living && allowable) 7 0 .1 (yes-and living allowable (yes-eqb live) can, refl) in
+        let asked = none-if (ltb i (length rs) && nameable) 12 _ .1 (yes-and (ltb i (length rs)) nameable (yes-ltb low) named, able) in
         move-answers ∙ none-first memory _ .1 (fitting, asked)
 
   -- ---- an offer
@@ -148,8 +132,8 @@ module _ (C R rule : ℕ) (w : List ℕ) (rs : List Record) where
     taken e =
         let z : offer-refusal ≡ 0 = sym offer-answers ∙ e in
         let packet = bad-packet C R a b f in
-        let nodes = fails (leb (C * R) a || leb (C * R) b) 2 _ (none-first packet _ .0 (none-first memory _ .0 z .1) .0) in
-        let flits = fails (not (flits-served f)) 5 _ (nodes .1) in
+        let nodes = none-unless (leb (C * R) a || leb (C * R) b) 2 _ (none-first packet _ .0 (none-first memory _ .0 z .1) .0) in
+        let flits = none-unless (not (flits-served f)) 5 _ (nodes .1) in
         let ends = or-no (leb (C * R) a) (leb (C * R) b) (nodes .0) in
         let few = and-yes (leb 1 f) (leb f 200) (T-not-not (flits-served f) (flits .0)) in
         record {
@@ -157,7 +141,7 @@ module _ (C R rule : ℕ) (w : List ℕ) (rs : List Record) where
           to = leb-no (ends .1);
           some = leb-yes (few .0);
           most = leb-yes (few .1);
-          apart = eqb-no (fails (eqb a b) 4 0 (flits .1) .0);
+          apart = eqb-no (none-unless (eqb a b) 4 0 (flits .1) .0);
           low = offering C R rule (length w) (length rs) (fits C R rule w rs) (lowest rs) a b f (sym z) refl .below;
           unused = lowest-unused rs;
           number = rw z refl;
