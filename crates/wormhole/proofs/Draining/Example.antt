@@ -39,10 +39,8 @@ whole =
     ∷ step 1 3 0 0
     ∷ [])
 
-pub begun : (work 3 2 1 2 beginning ≡ 12) × (made 3 2 1 2 beginning ≡ 0)
+-- after the offers 12 moves are owed and none is made; after the moves all are, and the mesh is empty
+pub computed : (work 3 2 1 2 beginning ≡ 12) × (made 3 2 1 2 beginning ≡ 0) × (work 3 2 1 2 whole ≡ 12) × (made 3 2 1 2 whole ≡ 12)
+    × (now 3 2 1 2 whole ≡ empty 3 2 2)
 unfolding run total offer move lowest may act release leave may-lead claim lead can-follow may-follow follow may-feed feed may-eat eat sections joined own hold link put drain fill every at-most words-fit record-fits is-channel some-run answer turn dist gap
-begun = (refl, refl)
-
-pub ended : (work 3 2 1 2 whole ≡ 12) × (made 3 2 1 2 whole ≡ 12) × (now 3 2 1 2 whole ≡ empty 3 2 2)
-unfolding run total offer move lowest may act release leave may-lead claim lead can-follow may-follow follow may-feed feed may-eat eat sections joined own hold link put drain fill every at-most words-fit record-fits is-channel some-run answer turn dist gap
-ended = (refl, refl, refl)
+computed = (refl, refl, refl, refl, refl)
