@@ -76,22 +76,22 @@ hop-inside m n (go vert less) i x = omega arith
 hop-inside m n (go vert more) i x = omega (arith, ltb→lt)
 
 -- ---- channels
-number-low : (d : Dir) → number d < 4
-number-low = dirs (λ d. number d < 4) (omega arith)
+pub dir-below : (d : Dir) → number d < 4
+dir-below = dirs (λ d. number d < 4) (omega arith)
 
 channel-node : (C : ℕ) (n : Place) (d : Dir) → channel C n d / 4 ≡ node C n
-channel-node C n d = omega (arith, number-low d)
+channel-node C n d = omega (arith, dir-below d)
 
 pub channel-start : (C : ℕ) (n : Place) (d : Dir) → coord horiz n < C → start C (channel C n d) ≡ n
 channel-start C n d h = rw (channel-node C n d) (place-of-node C n h)
 
 pub channel-way : (C : ℕ) (n : Place) (d : Dir) → way (channel C n d) ≡ d
 channel-way C n d =
-    let e : channel C n d % 4 ≡ number d = omega (arith, number-low d) in
+    let e : channel C n d % 4 ≡ number d = omega (arith, dir-below d) in
     rw e (dir-of-number d)
 
 pub channel-below : (m : Mesh) (n : Place) (d : Dir) → Inside m n → channel (m .columns) n d < channels (m .columns) (m .rows)
-channel-below m n d i = omega (arith, node-below m n i, number-low d)
+channel-below m n d i = omega (arith, node-below m n i, dir-below d)
 
 pub start-inside : (m : Mesh) (k : ℕ) → k < channels (m .columns) (m .rows) → Inside m (start (m .columns) k)
 start-inside m k h = place-inside m (k / 4) (omega arith)

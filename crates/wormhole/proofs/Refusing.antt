@@ -7,6 +7,7 @@ use mathlib.Core.List.{List}
 use native.Mathlib.Omega.{arith}
 use lib.Dec.{T, leb, ltb, eqb}
 use lib.ListN.{length, replicate}
+use lib.Ieee.Bits.{is-true}
 use mir.Facts.{and-yes, ltb-yes, leb-yes, eqb-yes}
 use borrow.Author.Tests.{not-true, not-false, eq-eqb, ne-eqb, le-leb, lt-leb, lt-ltb, le-ltb}
 use Rattle.route.specs.Grid.{pick}
@@ -35,10 +36,6 @@ none-if false j k = (λ e. absurd (omega arith), λ h. absurd (h .0))
 pub none-unless : (b : Bool) (j k : ℕ) → pick b (suc j) k ≡ 0 → T (not b) × (k ≡ 0)
 none-unless true j k e = absurd (omega arith)
 none-unless false j k e = (tt, e)
-
-is-true : (b : Bool) → T b → b ≡ true
-is-true true t = refl
-is-true false t = absurd t
 
 -- ---- the mesh and the sizes
 module _ (C R rule words records : ℕ) {k : ℕ} (hk : k ≡ bad-mesh C R rule) where

@@ -8,11 +8,12 @@ use lib.Dec.{T, leb, ltb, eqb, T-not, not-T}
 use native.Mathlib.Omega.{arith}
 use mir.Facts.{and-yes, yes-and, leb-yes, ltb-yes, eqb-yes, yes-leb, yes-ltb, yes-eqb}
 use Rattle.route.specs.declared.places.Place.{Place}
-use Rattle.route.specs.Grid.{horiz, vert, less, more, Dir, go, dist}
+use Rattle.route.specs.Grid.{Dir, dist}
 use Rattle.route.specs.Turns.{Arrival, local, going}
-use Rattle.route.specs.Numbers.{place-of, dir-of}
+use Rattle.route.specs.Numbers.{place-of, number, dir-of}
 use Rattle.route.specs.Paths.{same-place, answer}
 use Rattle.route.specs.Channels.{channel, way, far, is-channel}
+use Rattle.route.proofs.Promises.{dir-below, dir-of-number}
 use Rattle.wormhole.specs.declared.records.Record.{Record}
 use Rattle.wormhole.specs.Memory.{Net, Sections, owner-of, holds-of, next-of, named}
 use Rattle.wormhole.specs.Steps.{Stepped, ready, may-lead, start, advance, lead, room, can-follow, may-follow, follow, may-feed, feed, may-eat, eat, known, may, act}
@@ -87,13 +88,6 @@ module _ (N : Net) (deep : 1 ≤ N .depth) (G : Ranked (N .mesh)) where
     read (suc (suc (suc kind))) k d can yes-it = eat-step (act N s i r (suc (suc (suc kind))) k d) (r .front) refl yes-it refl
 
     -- ---- and back
-    -- the number of a direction
-    numbered : (d : Dir) → (x : ℕ) × (dir-of x ≡ d) × T (ltb x 4)
-    numbered (go horiz less) = (0, refl, tt)
-    numbered (go horiz more) = (1, refl, tt)
-    numbered (go vert less) = (2, refl, tt)
-    numbered (go vert more) = (3, refl, tt)
-
     -- a move that may be made, by its kind, channel and direction
     pub record Allowed : Type 0 where
       pub kind : ℕ
@@ -117,22 +111,20 @@ module _ (N : Net) (deep : 1 ≤ N .depth) (G : Ranked (N .mesh)) where
     pub written : (t : Stepped) → Step M s i r t → Allowed
     unfolding may may-follow can-follow may-feed may-eat
     written t (starts d fr some ne given free e) =
-        let x = numbered d in
         record {
           kind = 0;
           channel = 0;
-          direction = x .0;
-          known = x .2;
-          may = lead-may (x .0) 0 fr (place-of C (r .source)) local (leb 1 (r .waiting)) refl refl refl (yes-leb some) ne (rw (x .1) given) (rw (x .1) free);
+          direction = number d;
+          known = yes-ltb (dir-below d);
+          may = lead-may (number d) 0 fr (place-of C (r .source)) local (leb 1 (r .waiting)) refl refl refl (yes-leb some) ne (rw (dir-of-number d) given) (rw (dir-of-number d) free);
         }
     written t (advances k d fr some ne given free e) =
-        let x = numbered d in
         record {
           kind = 0;
           channel = 0;
-          direction = x .0;
-          known = x .2;
-          may = lead-may (x .0) (suc k) fr (far C k) (going (way k)) (leb 1 (holds-of s k)) refl refl refl (yes-leb some) ne (rw (x .1) given) (rw (x .1) free);
+          direction = number d;
+          known = yes-ltb (dir-below d);
+          may = lead-may (number d) (suc k) fr (far C k) (going (way k)) (leb 1 (holds-of s k)) refl refl refl (yes-leb some) ne (rw (dir-of-number d) given) (rw (dir-of-number d) free);
         }
     written t (follows k y real mine some nx free e) =
         record {
