@@ -107,6 +107,12 @@ channel-is m i h =
     let e = and-yes (ltb i (channels (m .columns) (m .rows))) (exists m (start (m .columns) i) (way i)) h in
     (ltb→lt i (channels (m .columns) (m .rows)) (e .0), e .1)
 
+-- and leads to a place of the mesh
+pub end-inside : (m : Mesh) (i : ℕ) → T (is-channel m i) → Inside m (far (m .columns) i)
+end-inside m i h =
+    let e = channel-is m i h in
+    hop-inside m (start (m .columns) i) (way i) (start-inside m i (e .0)) (e .1)
+
 -- channel o may be used after channel i
 pub record Joined (m : Mesh) (i o : ℕ) : Type 0 where
   pub from : T (is-channel m i)

@@ -25,10 +25,10 @@ use Rattle.route.proofs.Open.{open-way}
 -- shorter than the distance (none-shorter); two places are one exactly if their distance is 0 (home)
 pub use Rattle.route.proofs.Shortest.{by-paths, none-shorter, home}
 -- the channel that has the number of a place and a direction leaves that place by that direction (channel-start, channel-way); the places of
--- numbers below their count, and the ends of channels that exist, lie in the mesh (place-inside, start-inside, hop-inside), and have such
+-- numbers below their count, and the ends of channels that exist, lie in the mesh (place-inside, start-inside, hop-inside, end-inside), and have such
 -- numbers (node-below, channel-below, dir-below of a direction); the direction of a direction's number is that direction (dir-of-number); what it is
 -- to be a channel (channel-is)
-pub use Rattle.route.proofs.Nodes.{channel-start, channel-way, place-inside, start-inside, hop-inside, node-below, channel-below, dir-below, channel-is}
+pub use Rattle.route.proofs.Nodes.{channel-start, channel-way, place-inside, start-inside, hop-inside, end-inside, node-below, channel-below, dir-below, channel-is}
 pub use Rattle.route.proofs.Codes.{dir-of-number}
 -- sides of a byte have a product of two (bytes-fit), and sides up to 64 numbers of channels that fit a word (words-fit); a mesh that no call
 -- refuses has these sides and rule (Served, served), and a refusal is given as it is (refuses)

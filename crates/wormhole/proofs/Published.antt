@@ -14,7 +14,7 @@ use Rattle.route.specs.Grid.{pick, horiz, vert, less, more, Dir, go, coord, hop
 use Rattle.route.specs.Mesh.{Mesh, exists}
 use Rattle.route.specs.Numbers.{place-of, dir-of}
 use Rattle.route.specs.Channels.{channel, start, way, far, is-channel}
-use Rattle.route.proofs.Promises.{channel-start, start-inside, hop-inside, channel-is}
+use Rattle.route.proofs.Promises.{channel-start, end-inside, channel-is}
 use Rattle.wormhole.specs.declared.records.Record.{Record}
 use Rattle.wormhole.specs.Memory.{Net, Sections, holds-of, next-of, own, hold, link, put, drain, fill, named}
 use Rattle.wormhole.specs.Range.{every, at-most, names, words-fit}
@@ -33,8 +33,7 @@ ahead-other : (m : Mesh) (k : ℕ) (d : Dir) → is-channel m k ≡ true → cha
 ahead-other m k d h e =
     let C = m .columns in
     let i = channel-is m k (subst T (sym h) tt) in
-    let there = hop-inside m (start C k) (way k) (start-inside m k (i .0)) (i .1) in
-    moves m (start C k) (way k) (i .1) (sym (channel-start C (far C k) d (there .0)) ∙ ap (start C) e)
+    moves m (start C k) (way k) (i .1) (sym (channel-start C (far C k) d (end-inside m k (subst T (sym h) tt) .0)) ∙ ap (start C) e)
 
 set-zero : (l : List ℕ) (k v : ℕ) → v ≡ 0 → getD (set l k v) k 0 ≡ 0
 set-zero [] k v e = refl

@@ -7,7 +7,7 @@ use mathlib.Core.Bool.{Bool, true, false, _&&_}
 use mathlib.Core.List.{List}
 use native.Mathlib.Decide.{ℕ-discrete}
 use native.Mathlib.Omega.{arith}
-use lib.Dec.{eqb, eqb→eq}
+use lib.Dec.{T, eqb, eqb→eq}
 use lib.ListN.{length, getD, set, length-set}
 use mir.Facts.{and-yes}
 use Rattle.route.specs.Grid.{pick}
@@ -15,7 +15,7 @@ use Rattle.route.specs.Numbers.{rule-of, channels}
 use Rattle.wormhole.specs.declared.records.Record.{Record}
 use Rattle.wormhole.specs.Memory.{Sections, net, sections, joined, owner-of, holds-of, none, fresh}
 use Rattle.wormhole.specs.Steps.{Stepped, act}
-use Rattle.wormhole.specs.Calls.{needed, lowest, bad-size}
+use Rattle.wormhole.specs.Calls.{needed, fits, lowest, bad-size}
 use Rattle.wormhole.specs.Drains.{Lent, Move, Call, offering, moving, owes, offers, moves, after, brings, makes}
 use Rattle.wormhole.proofs.Sections.{sections-joined, joined-long}
 use Rattle.wormhole.proofs.Draining.Picks.{passed}
@@ -23,7 +23,7 @@ use Rattle.wormhole.proofs.Draining.Network.{Network}
 use Rattle.wormhole.proofs.Draining.Loads.{load-none}
 use Rattle.wormhole.proofs.Draining.Fill.{heavy, yet}
 use Rattle.wormhole.proofs.Draining.Frames.{Frame, frame-refl}
-use Rattle.wormhole.proofs.Draining.Invariant.{Nothing, aim, Fine, Slot, unused, waits, holds, Invariant, left-of, left, Kept, kept-all, left-all}
+use Rattle.wormhole.proofs.Draining.Invariant.{Nothing, aim, Fine, Slot, unused, waits, holds, Invariant, left-of, left-in, Kept, kept-all, left-all}
 use Rattle.wormhole.proofs.Draining.Moving.{kept}
 use Rattle.wormhole.proofs.Draining.Climbing.{goes-on}
 use Rattle.wormhole.proofs.Draining.Emptying.{unused-left}
@@ -36,12 +36,12 @@ use Rattle.wormhole.proofs.Draining.Answers as answers
 fine-of : (M : Network) (s : Sections) (i : ℕ) (r : Record) → r .live ≡ 1 → Slot M s i r → Fine M r
 fine-of M s i r live (unused e nothing) = absurd (omega (arith, live, ap (λ (x : Record). x .live) e))
 fine-of M s i r live (waits fine W) = fine
-fine-of M s i r live (holds q f fine H full) = fine
+fine-of M s i r live (holds fine X) = fine
 
 pub unused-of : (M : Network) (s : Sections) (i : ℕ) (r : Record) → r .live ≡ 0 → Slot M s i r → (r ≡ none) × Nothing s i
 unused-of M s i r dead (unused e nothing) = (e, nothing)
 unused-of M s i r dead (waits fine W) = absurd (omega (arith, dead, fine .live))
-unused-of M s i r dead (holds q f fine H full) = absurd (omega (arith, dead, fine .live))
+unused-of M s i r dead (holds fine X) = absurd (omega (arith, dead, fine .live))
 
 -- a refusal counts nothing
 refused : (c : ℕ) (b : Bool) (x : ℕ) → c ≢ 0 → pick (eqb c 0 && b) x 0 ≡ 0
@@ -59,7 +59,7 @@ module _ (C R rule : ℕ) where
 
   -- the moves left to its records that pass a test
   abbrev pub owed : (ℕ → Bool) → Lent → ℕ
-  owed test m = left M test (sections (channels C R) (m .words)) (m .records)
+  owed test m = left-in M test (sections (channels C R) (m .words)) (m .records)
 
   -- a packet that has not set out owes all its moves
   owing : (s : Sections) (i a b f : ℕ) → Nothing s i → left-of M s i (fresh a b f) ≡ owes C a b f
@@ -191,15 +191,17 @@ module _ (C R rule : ℕ) where
             let same = answers.unmoved C R rule (m .words) rs (v .packet) (v .kind) (v .channel) (v .direction) ne in
             rw (same .0, same .1) (G, λ test. rw (refused (moves C R rule m v .answer) (test (v .packet)) 1 ne) refl)
 
+    -- no call refuses the memory by 9
+    pub ranged : T (fits C R rule (m .words) rs)
+    ranged = ranges (net C R rule) one-deep (house-ranked (rule-of rule) C R 0) s rs (G .kept)
+
     -- while a record is live some move is accepted
     pub some-move : bad-size C R rule (needed C R) count ≡ 0 → (i : ℕ) → getD rs i none .live ≢ 0 → (v : Move) × (moves C R rule m v .answer ≡ 0)
     some-move size i live =
-        let N = net C R rule in
-        let rank = house-ranked (rule-of rule) C R 0 in
         let A = goes-on M s rs (G .kept) i live in
         let j = A .packet in
-        let W = written N one-deep rank s j (getD rs j none) (A .after) (A .step) in (
+        let W = written (net C R rule) one-deep (house-ranked (rule-of rule) C R 0) s j (getD rs j none) (A .after) (A .step) in (
           record { packet = j; kind = W .kind; channel = W .channel; direction = W .direction },
           answers.accepted C R rule (m .words) rs j (W .kind) (W .channel) (W .direction) (rw (G .long, G .many) size)
-              (ranges N one-deep rank s rs (G .kept)) (A .low) (W .known) (A .fine .live) (W .may),
+              ranged (A .low) (W .known) (A .fine .live) (W .may),
         )

@@ -17,7 +17,7 @@ use Rattle.wormhole.proofs.Draining.Network.{Network}
 use Rattle.wormhole.proofs.Draining.Loads.{load-at-least}
 use Rattle.wormhole.proofs.Draining.Shape.{gap, Shape}
 use Rattle.wormhole.proofs.Draining.Fill.{one}
-use Rattle.wormhole.proofs.Draining.Invariant.{aim, Fine, Waiting, Held, Slot, unused, waits, holds, Invariant}
+use Rattle.wormhole.proofs.Draining.Invariant.{aim, Fine, Waiting, Held, Holding, Slot, unused, waits, holds, Invariant}
 use Rattle.wormhole.proofs.Draining.Stepping.{Step, starts, advances, follows, feeds, eats}
 
 -- a packet that can make a step
@@ -31,11 +31,8 @@ pub record Able (M : Network) (s : Sections) (rs : List Record) : Type 0 where
 -- record i holds channels
 pub record Owner (M : Network) (s : Sections) (rs : List Record) (i : ℕ) : Type 0 where
   pub low : i < length rs
-  pub q : ℕ
-  pub f : ℕ
   pub fine : Fine M (getD rs i none)
-  pub held : Held M s i (getD rs i none) q f
-  pub full : getD rs i none .waiting ≡ 0 → 1 ≤ holds-of s q
+  pub holding : Holding M s i (getD rs i none)
 
 module _ (M : Network) (s : Sections) (rs : List Record) (I : Invariant M s rs) where
   -- a channel's owner does
@@ -45,7 +42,7 @@ module _ (M : Network) (s : Sections) (rs : List Record) (I : Invariant M s rs) 
       go : Slot M s i (getD rs i none) → Owner M s rs i
       go (unused z nothing) = absurd (nothing k e)
       go (waits fine W) = absurd (W .nothing k e)
-      go (holds q f fine H full) = record { low = omega (arith, I .bound k); q = q; f = f; fine = fine; held = H; full = full }
+      go (holds fine X) = record { low = omega (arith, I .bound k); fine = fine; holding = X }
 
   -- a record that is live is one of the list
   live-low : (i : ℕ) → getD rs i none .live ≢ 0 → Dec (i < length rs) → i < length rs
@@ -81,7 +78,7 @@ module _ (M : Network) (s : Sections) (rs : List Record) (I : Invariant M s rs) 
       walk z (suc b) k l mine some = pass z k mine some (λ y less my sy. walk z b y (omega arith) my sy)
 
       -- a packet that holds channels can move, or waits for one whose front has a greater rank
-      module _ (full : r .waiting ≡ 0 → 1 ≤ holds-of s q) (again : (j : ℕ) (O : Owner M s rs j) → M .rank f < M .rank (O .f) → Able M s rs) where
+      module _ (full : r .waiting ≡ 0 → 1 ≤ holds-of s q) (again : (j : ℕ) (O : Owner M s rs j) → M .rank f < M .rank (O .holding .f) → Able M s rs) where
         arrived : gap M (aim M r) f ≡ 0 → Dec (1 ≤ holds-of s f) → Dec (1 ≤ holds-of s q) → Dec (r .waiting ≡ 0) → Able M s rs
         arrived z (yes some) d w =
             let l = load-at-least (M .numbers) i one (owner-of s) (holds-of s) f (M .below f (S .at f (S .front) .real)) (S .front) in
@@ -96,7 +93,7 @@ module _ (M : Network) (s : Sections) (rs : List Record) (I : Invariant M s rs) 
             able (advance s i r (M .channel (M .far f) d) f) (advances f d (H .front) (H .fill .head ne) ne yes-d (ap (owner-of s) e ∙ z) refl)
         onward d c ne yes-d e (suc j) z =
             let O = owner c j z in
-            again j O (omega (arith, M .rises f (aim M r) d (S .at f (S .front) .real) yes-d, ap (M .rank) e, O .held .shape .at c z .rank))
+            again j O (omega (arith, M .rises f (aim M r) d (S .at f (S .front) .real) yes-d, ap (M .rank) e, O .holding .held .shape .at c z .rank))
 
         climb-on : Dec (gap M (aim M r) f ≡ 0) → Able M s rs
         climb-on (yes z) = arrived z (decLe 1 (holds-of s f)) (decLe 1 (holds-of s q)) (ℕ-discrete (r .waiting) 0)
@@ -104,11 +101,14 @@ module _ (M : Network) (s : Sections) (rs : List Record) (I : Invariant M s rs) 
             let w = S .way ne in
             onward (w .0) (M .channel (M .far f) (w .0)) ne (w .1) refl (owner-of s (M .channel (M .far f) (w .0))) refl
 
-  climb : (b j : ℕ) (O : Owner M s rs j) → M .top < M .rank (O .f) + b → Able M s rs
-  climb zero j O l = absurd (omega (arith, M .bounded (O .f) (O .held .shape .at (O .f) (O .held .shape .front) .real)))
+  climb : (b j : ℕ) (O : Owner M s rs j) → M .top < M .rank (O .holding .f) + b → Able M s rs
+  climb zero j O l =
+      let S = O .holding .held .shape in
+      absurd (omega (arith, M .bounded (O .holding .f) (S .at (O .holding .f) (S .front) .real)))
   climb (suc b) j O l =
-      climb-on j (O .low) (O .fine) (O .q) (O .f) (O .held) (O .full) (λ j′ O′ up. climb b j′ O′ (omega arith))
-      (ℕ-discrete (gap M (aim M (getD rs j none)) (O .f)) 0)
+      let X = O .holding in
+      climb-on j (O .low) (O .fine) (X .q) (X .f) (X .held) (X .full) (λ j′ O′ up. climb b j′ O′ (omega arith))
+      (ℕ-discrete (gap M (aim M (getD rs j none)) (X .f)) 0)
 
   pub goes-on : (i : ℕ) → getD rs i none .live ≢ 0 → Able M s rs
   goes-on i live = go (live-low i live (decLt i (length rs))) (I .slot i)
@@ -129,5 +129,4 @@ module _ (M : Network) (s : Sections) (rs : List Record) (I : Invariant M s rs) 
       go low (waits fine W) =
           let w = M .connected (r .source) (r .destination) (fine .source) (fine .destination) (fine .apart) in
           off low fine W (w .0) (M .channel (M .place (r .source)) (w .0)) (w .1) refl (owner-of s (M .channel (M .place (r .source)) (w .0))) refl
-      go low (holds q f fine H full) =
-          climb (suc (M .top)) i (record { low = low; q = q; f = f; fine = fine; held = H; full = full }) (omega arith)
+      go low (holds fine X) = climb (suc (M .top)) i (record { low = low; fine = fine; holding = X }) (omega arith)

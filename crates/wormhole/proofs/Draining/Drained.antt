@@ -3,15 +3,15 @@
 use Prim.Native.Nat.{ℕ, zero, suc, _+_, _-_, _≤_, _<_}
 use mathlib.Core.Path.{_≡_, refl, sym, ap, _∙_}
 use mathlib.Core.Logic.{_↔_}
-use mathlib.Core.Bool.{Bool, true}
+use mathlib.Core.Bool.{Bool}
 use mathlib.Core.List.{List, [], _∷_}
 use native.Mathlib.Omega.{arith}
 use lib.Dec.{eqb, eqb→eq, eqb-refl}
 use lib.ListN.{length, getD, replicate, length-replicate}
-use Rattle.route.specs.Numbers.{rule-of, channels}
+use Rattle.route.specs.Numbers.{channels}
 use Rattle.route.specs.Served.{unless}
 use Rattle.wormhole.specs.declared.records.Record.{Record}
-use Rattle.wormhole.specs.Memory.{Sections, net, sections, joined, none}
+use Rattle.wormhole.specs.Memory.{Sections, sections, joined, none}
 use Rattle.wormhole.specs.Calls.{left, needed, lowest, bad-size, reset}
 use Rattle.wormhole.specs.Drains.{Lent, Move, Call, offering, moving, movings, empty, any, owes, offers, after, run, brings, makes, total, accepted, now, work, made, remaining, Drains, Demand}
 use Rattle.wormhole.proofs.Refusing.{sized}
@@ -19,10 +19,9 @@ use Rattle.wormhole.proofs.Sections.{rejoined}
 use Rattle.wormhole.proofs.Draining.Picks.{picked}
 use Rattle.wormhole.proofs.Draining.Network.{Network}
 use Rattle.wormhole.proofs.Draining.Emptying.{at-replicate, invariant-empty, none-left, left-none, some-live, all-zero, joined-zeros, sections-zeros}
-use Rattle.wormhole.proofs.Draining.Meshes.{house-ranked, one-deep, real}
-use Rattle.wormhole.proofs.Draining.Ranging.{ranges}
+use Rattle.wormhole.proofs.Draining.Meshes.{real}
 use Rattle.wormhole.proofs.Draining.Answers as answers
-use Rattle.wormhole.proofs.Draining.Accounts.{unused-of, Good, owed, called, some-move}
+use Rattle.wormhole.proofs.Draining.Accounts.{unused-of, Good, owed, called, ranged, some-move}
 
 module _ (C R rule count : ℕ) where
   abbrev M : Network
@@ -145,7 +144,7 @@ module _ (C R rule count : ℕ) where
       after-any : Drains C R rule count cs
       after-any =
           record {
-            ranged = ranges (net C R rule) one-deep (house-ranked (rule-of rule) C R 0) (in-sections m) (m .records) (G .kept);
+            ranged = ranged C R rule count m G;
             enough = omega (arith, even);
             goes-on = some-move C R rule count m G size;
             at-most = λ vs. omega (arith, even, runs-moves m G vs);

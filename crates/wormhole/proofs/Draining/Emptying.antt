@@ -18,7 +18,7 @@ use Rattle.wormhole.proofs.Draining.Network.{Network}
 use Rattle.wormhole.proofs.Draining.Sums.{sum-at-least, sum-zero, sum-some}
 use Rattle.wormhole.proofs.Draining.Loads.{load, load-at-least}
 use Rattle.wormhole.proofs.Draining.Fill.{heavy, yet, yet-none}
-use Rattle.wormhole.proofs.Draining.Invariant.{Nothing, aim, away, Slot, unused, waits, holds, Invariant, left-of, share, left}
+use Rattle.wormhole.proofs.Draining.Invariant.{Nothing, aim, away, Slot, unused, waits, holds, Invariant, left-of, share, left-in}
 
 -- sections that are all zero
 abbrev pub zeros : ℕ → Sections
@@ -49,7 +49,7 @@ module _ (M : Network) where
     unused-left (unused e nothing) z =
         yet-none M i (aim M r) (away M r) (owner-of s) (holds-of s) (r .waiting) (ap (λ (x : Record). x .waiting) e) nothing
     unused-left (waits fine W) z = absurd (omega (arith, fine .live, ap (λ (x : Record). x .live) z))
-    unused-left (holds q f fine H full) z = absurd (omega (arith, fine .live, ap (λ (x : Record). x .live) z))
+    unused-left (holds fine X) z = absurd (omega (arith, fine .live, ap (λ (x : Record). x .live) z))
 
     some-left : (a b c : ℕ) → 1 ≤ a → 1 ≤ a * suc b + c
     some-left a b c l = omega arith
@@ -61,14 +61,15 @@ module _ (M : Network) where
     left-unused (waits fine W) z =
         let l = load (M .numbers) i (heavy M (aim M r)) (owner-of s) (holds-of s) in
         absurd (omega (arith, z, some-left (r .waiting) (away M r) l (omega (arith, W .waiting, fine .some))))
-    left-unused (holds q f fine H full) z = absurd (go (ℕ-discrete (r .waiting) 0))
+    left-unused (holds fine X) z = absurd (go (ℕ-discrete (r .waiting) 0))
       where
         go : Dec (r .waiting ≡ 0) → ⊥
         go (yes e) =
-            let S = H .shape in
+            let S = X .held .shape in
+            let q = X .q in
             let low = M .below q (S .at q (S .rear) .real) in
             let g = load-at-least (M .numbers) i (heavy M (aim M r)) (owner-of s) (holds-of s) q low (S .rear) in
-            omega (arith, z, g, some-left (holds-of s q) (M .dist (M .far q) (aim M r)) 0 (full e))
+            omega (arith, z, g, some-left (holds-of s q) (M .dist (M .far q) (aim M r)) 0 (X .full e))
         go (no ne) =
             let l = load (M .numbers) i (heavy M (aim M r)) (owner-of s) (holds-of s) in
             omega (arith, z, some-left (r .waiting) (away M r) l (omega arith))
@@ -76,28 +77,28 @@ module _ (M : Network) where
     live : Slot M s i r → 1 ≤ left-of M s i r → r .live ≢ 0
     live (unused e nothing) l z = omega (arith, l, unused-left (unused e nothing) e)
     live (waits fine W) l z = omega (arith, z, fine .live)
-    live (holds q f fine H full) l z = omega (arith, z, fine .live)
+    live (holds fine X) l z = omega (arith, z, fine .live)
 
   -- ---- all of a memory, for the records that pass a test
   module _ (test : ℕ → Bool) (s : Sections) (rs : List Record) (I : Invariant M s rs) where
-    pub none-left : ((j : ℕ) → T (test j) → getD rs j none ≡ none) → left M test s rs ≡ 0
-    unfolding left
+    pub none-left : ((j : ℕ) → T (test j) → getD rs j none ≡ none) → left-in M test s rs ≡ 0
+    unfolding left-in
     none-left all = sum-zero (share M test s rs) (length rs) (λ j l. at j (test j) (all j))
       where
         at : (j : ℕ) (b : Bool) → (T b → getD rs j none ≡ none) → pick b (left-of M s j (getD rs j none)) 0 ≡ 0
         at j true e = unused-left s j (getD rs j none) (I .slot j) (e tt)
         at j false e = refl
 
-    pub left-none : left M test s rs ≡ 0 → (j : ℕ) → j < length rs → T (test j) → (getD rs j none ≡ none) × Nothing s j
-    unfolding left
+    pub left-none : left-in M test s rs ≡ 0 → (j : ℕ) → j < length rs → T (test j) → (getD rs j none ≡ none) × Nothing s j
+    unfolding left-in
     left-none z j l = at (test j) (omega (arith, z, sum-at-least (share M test s rs) (length rs) j l))
       where
         at : (b : Bool) → pick b (left-of M s j (getD rs j none)) 0 ≡ 0 → T b → (getD rs j none ≡ none) × Nothing s j
         at true e t = left-unused s j (getD rs j none) (I .slot j) e
         at false e t = absurd t
 
-    pub some-live : 1 ≤ left M test s rs → (j : ℕ) × (getD rs j none .live ≢ 0)
-    unfolding left
+    pub some-live : 1 ≤ left-in M test s rs → (j : ℕ) × (getD rs j none .live ≢ 0)
+    unfolding left-in
     some-live l =
         let p = sum-some (share M test s rs) (length rs) l in
         (p .0, at (p .0) (test (p .0)) (p .2))
@@ -107,7 +108,7 @@ module _ (M : Network) where
         at j false e = absurd (omega arith)
 
   -- with no move left all is zero
-  pub all-zero : (s : Sections) (rs : List Record) → Invariant M s rs → left M (λ j. true) s rs ≡ 0 → (s ≡ zeros (M .numbers)) × (rs ≡ replicate (length rs) none)
+  pub all-zero : (s : Sections) (rs : List Record) → Invariant M s rs → left-in M (λ j. true) s rs ≡ 0 → (s ≡ zeros (M .numbers)) × (rs ≡ replicate (length rs) none)
   all-zero s rs I z = (
     (λ j. record {
       owner = words (s .owner) (I .owners) free j;

@@ -56,11 +56,18 @@ pub record Held (M : Network) (s : Sections) (i : ℕ) (r : Record) (q f : ℕ) 
   pub shape : Shape M i (aim M r) (owner-of s) (next-of s) q f
   pub fill : Fill M i (aim M r) (away M r) (owner-of s) (holds-of s) (r .flits) (r .waiting) (r .eaten) q f
 
+-- it holds channels, and with nothing at the source there is a flit in its rear
+pub record Holding (M : Network) (s : Sections) (i : ℕ) (r : Record) : Type 0 where
+  pub q : ℕ
+  pub f : ℕ
+  pub held : Held M s i r q f
+  pub full : r .waiting ≡ 0 → 1 ≤ holds-of s q
+
 -- the three states of record i, which is r
 pub data Slot (M : Network) (s : Sections) (i : ℕ) (r : Record) : Type 0 where
   unused : r ≡ none → Nothing s i → Slot M s i r
   waits : Fine M r → Waiting s i r → Slot M s i r
-  holds : (q f : ℕ) → Fine M r → Held M s i r q f → (r .waiting ≡ 0 → 1 ≤ holds-of s q) → Slot M s i r
+  holds : Fine M r → Holding M s i r → Slot M s i r
 
 pub record Invariant (M : Network) (s : Sections) (rs : List Record) : Type 0 where
   pub owners : length (s .owner) ≡ M .numbers
@@ -77,8 +84,8 @@ left-of M s i r = yet M i (aim M r) (away M r) (owner-of s) (holds-of s) (r .wai
 abbrev pub share : Network → (ℕ → Bool) → Sections → List Record → ℕ → ℕ
 share M test s rs i = pick (test i) (left-of M s i (getD rs i none)) 0
 
-unfoldable pub left : Network → (ℕ → Bool) → Sections → List Record → ℕ
-left M test s rs = Σ< (length rs) (share M test s rs)
+unfoldable pub left-in : Network → (ℕ → Bool) → Sections → List Record → ℕ
+left-in M test s rs = Σ< (length rs) (share M test s rs)
 
 -- what a move of record i has to keep: the frame, its own state, and one move fewer left to it
 pub record Kept (M : Network) (i : ℕ) (s : Sections) (r : Record) (t : Stepped) : Type 0 where
@@ -104,15 +111,21 @@ module _ (M : Network) (i : ℕ) (s s′ : Sections) (F : Frame i s s′) where
         eaten = W .eaten;
         nothing = λ k m. W .nothing k (backs j ne k m);
       })
-  slot-kept j r ne (holds q f fine H full) =
-      holds q f fine
+  slot-kept j r ne (holds fine X) =
+      let H = X .held in
+      holds fine
       (record {
-        rear = H .rear;
-        front = H .front;
-        shape = shape-kept (λ k e. let c = keeps j ne k e in (c .0, c .2)) (backs j ne) (H .shape);
-        fill = fill-kept (λ k e. let c = keeps j ne k e in (c .0, c .1)) (backs j ne) (H .shape .front) (H .fill);
+        q = X .q;
+        f = X .f;
+        held =
+            record {
+              rear = H .rear;
+              front = H .front;
+              shape = shape-kept (λ k e. let c = keeps j ne k e in (c .0, c .2)) (backs j ne) (H .shape);
+              fill = fill-kept (λ k e. let c = keeps j ne k e in (c .0, c .1)) (backs j ne) (H .shape .front) (H .fill);
+            };
+        full = λ z. omega (arith, keeps j ne (X .q) (H .shape .rear) .1, X .full z);
       })
-      (λ z. omega (arith, keeps j ne q (H .shape .rear) .1, full z))
 
   left-kept : (j : ℕ) (r : Record) → j ≢ i → left-of M s′ j r ≡ left-of M s j r
   unfolding yet
@@ -153,8 +166,8 @@ module _ (M : Network) (i : ℕ) (s s′ : Sections) (F : Frame i s s′) where
 
     -- what is left to another record stays, and what is left in all changes as what is left to record i
     pub left-all : (test : ℕ → Bool)
-        → left M test s′ (set rs i r) + pick (test i) (left-of M s i (getD rs i none)) 0 ≡ left M test s rs + pick (test i) (left-of M s′ i r) 0
-    unfolding left
+        → left-in M test s′ (set rs i r) + pick (test i) (left-of M s i (getD rs i none)) 0 ≡ left-in M test s rs + pick (test i) (left-of M s′ i r) 0
+    unfolding left-in
     left-all test =
         let p = sum-change (share M test s rs) (share M test s′ (set rs i r)) (length rs) i low
         (λ j ne. rw (elsewhere j ne, left-kept j (getD rs j none) ne) refl) in

@@ -89,15 +89,9 @@ module _ (m : Mesh) where
   pub below : (k : ℕ) → T (is-channel m k) → k < channels C R
   below k x = routing.channel-is m k x .0
 
-  -- it leads to a place of the mesh
-  end-inside : (k : ℕ) → T (is-channel m k) → Inside m (far C k)
-  end-inside k x =
-      let e = routing.channel-is m k x in
-      routing.hop-inside m (start C k) (way k) (routing.start-inside m k (e .0)) (e .1)
-
   -- which passes
   pub far-inside : (k : ℕ) → T (is-channel m k) → T (within (far C k))
-  far-inside k x = inside-within (far C k) (end-inside k x)
+  far-inside k x = inside-within (far C k) (routing.end-inside m k x)
 
   -- ---- the channel that leaves a place of the mesh by a direction
   module _ (n : Place) (d : Dir) (i : Inside m n) where
@@ -137,7 +131,7 @@ module _ (m : Mesh) where
       let n = far C k in
       let a = going (way k) in
       let o = channel C n d in
-      let i = end-inside k x in
+      let i = routing.end-inside m k x in
       yes-and (is-channel m k && is-channel m o) (same-place n (start C o) && turn m (coord horiz (start C o)) a (way o))
       (yes-and (is-channel m k) (is-channel m o) x (is-one n d i (routing.channel m n a t d given)))
       (subst (λ (s : Place). T (same-place n s && turn m (coord horiz s) a (way o))) (sym (routing.channel-start C n d (i .0)))

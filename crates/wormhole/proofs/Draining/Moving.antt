@@ -21,7 +21,7 @@ use Rattle.wormhole.proofs.Draining.Shape.{gap, Ahead, Shape, shape-sta
 use Rattle.wormhole.proofs.Draining.Fill.{Fill, yet, yet-none, one, fill-start, fill-feed, fill-follow, fill-eat, fill-advance}
 use Rattle.wormhole.proofs.Draining.Frames.{stored, Frame, frame-then, frame-hold, frame-link, frame-put}
 use Rattle.wormhole.proofs.Draining.Invariant.{Nothing, aim, away, Fine, Waiting, Held, Slot, unused, waits, holds, Invariant, left-of, Kept}
-use Rattle.wormhole.proofs.Draining.Releasing.{After, still, gone, Left, left-law}
+use Rattle.wormhole.proofs.Draining.Releasing.{After, still, gone, Released, release-law}
 use Rattle.wormhole.proofs.Draining.Stepping.{Step, starts, advances, follows, feeds, eats}
 
 module _ (M : Network) (s : Sections) (rs : List Record) (I : Invariant M s rs) (i : ℕ) (r : Record) (fine : Fine M r) where
@@ -41,7 +41,7 @@ module _ (M : Network) (s : Sections) (rs : List Record) (I : Invariant M s rs) 
 
   -- after the release, where the channel's next is a channel
   on : (k y : ℕ) (s¹ : Sections) (w e q f : ℕ) (t : Stepped) → Frame i s s¹ → suc (left-of M s¹ i (anew r w e q f)) ≡ left-of M s i r
-      → next-of s¹ k ≡ suc y → Left M i k s¹ (anew r w e q f) t → Kept M i s r t
+      → next-of s¹ k ≡ suc y → Released M i k s¹ (anew r w e q f) t → Kept M i s r t
   on k y s¹ w e q f t F less nx L =
       record {
         frame = frame-then i s s¹ (t .words) F (L .frame);
@@ -50,7 +50,7 @@ module _ (M : Network) (s : Sections) (rs : List Record) (I : Invariant M s rs) 
       }
     where
       go : After M (t .words) i (anew r w e (L .rear) (L .front)) (next-of s¹ k) → Slot M (t .words) i (anew r w e (L .rear) (L .front))
-      go (still q f H full) = holds q f (refined w e (L .rear) (L .front)) H full
+      go (still X) = holds (refined w e (L .rear) (L .front)) X
       go (gone z all nothing) = absurd (omega arith)
 
   -- ---- from the source into channel t
@@ -60,14 +60,19 @@ module _ (M : Network) (s : Sections) (rs : List Record) (I : Invariant M s rs) 
       record {
         frame = frame-put i s t (i + 1) 1 0 (long t l .0) (long t l .1) (long t l .2) (λ a b. a z) (λ a b. b (omega arith)) (λ a. absurd (omega arith));
         slot =
-            holds t t (refined (r .waiting - 1) (r .eaten) (t + 1) (t + 1))
+            holds (refined (r .waiting - 1) (r .eaten) (t + 1) (t + 1))
             (record {
-              rear = omega arith;
-              front = omega arith;
-              shape = shape-start (W .nothing) uo (stored (s .next) t 0 refl (long t l .2) .at) A;
-              fill = rw (W .eaten) (both .0);
-            })
-            (λ w. omega (arith, uh .at));
+              q = t;
+              f = t;
+              held =
+                  record {
+                    rear = omega arith;
+                    front = omega arith;
+                    shape = shape-start (W .nothing) uo (stored (s .next) t 0 refl (long t l .2) .at) A;
+                    fill = rw (W .eaten) (both .0);
+                  };
+              full = λ w. omega (arith, uh .at);
+            });
         less = both .1;
       }
     where
@@ -104,9 +109,13 @@ module _ (M : Network) (s : Sections) (rs : List Record) (I : Invariant M s rs) 
         (record {
           frame = frame-hold i s q (holds-of s q + 1) (S .rear);
           slot =
-              holds q f (refined (r .waiting - 1) (r .eaten) (r .rear) (r .front))
-              (record { rear = H .rear; front = H .front; shape = S; fill = both .0 })
-              (λ z. omega (arith, u .at));
+              holds (refined (r .waiting - 1) (r .eaten) (r .rear) (r .front))
+              (record {
+                q = q;
+                f = f;
+                held = record { rear = H .rear; front = H .front; shape = S; fill = both .0 };
+                full = λ z. omega (arith, u .at);
+              });
           less = both .1;
         })
       where
@@ -129,7 +138,7 @@ module _ (M : Network) (s : Sections) (rs : List Record) (I : Invariant M s rs) 
         (on k y s² (r .waiting) (r .eaten) (r .rear) (r .front) (leave s² r k (r .front))
         (frame-then i s s¹ s² (frame-hold i s k (holds-of s k - 1) mine) (frame-hold i s¹ y (holds-of s¹ y + 1) (near .0)))
         (both .1) nx
-        (left-law M i k (r .front) s² r q f (record { rear = H .rear; front = H .front; shape = S; fill = both .0 }) mine
+        (release-law M i k (r .front) s² r q f (record { rear = H .rear; front = H .front; shape = S; fill = both .0 }) mine
         (long k lk .0) l2 (long k lk .2)
         (λ z p. let v : y ≡ z = omega (arith, nx) in rw (← v) (omega (arith, u2 .at)))
         (λ w ne. omega (arith, full w, both .2 q ne))))
@@ -175,7 +184,7 @@ module _ (M : Network) (s : Sections) (rs : List Record) (I : Invariant M s rs) 
         (frame-then i sa sb s¹ (frame-link i sa f (t + 1) (S .front))
         (frame-put i sb t (i + 1) 1 0 (long t lt .0) lht lxt (λ a b. a z) (λ a b. b (omega arith)) (λ a. absurd (omega arith)))))
         (both .1) nx
-        (left-law M i f (f + 1) s¹ r¹ q t
+        (release-law M i f (f + 1) s¹ r¹ q t
         (record {
           rear = H .rear;
           front = omega arith;
@@ -261,9 +270,9 @@ module _ (M : Network) (s : Sections) (rs : List Record) (I : Invariant M s rs) 
             × (suc (left-of M s¹ i r) ≡ left-of M s i r)
         both = fill-eat S (H .fill) here some u
 
-        L : Left M i f s¹ (bite r) t
+        L : Released M i f s¹ (bite r) t
         L =
-            left-law M i f (r .front) s¹ (bite r) q f (record { rear = H .rear; front = H .front; shape = S; fill = both .0 }) (S .front)
+            release-law M i f (r .front) s¹ (bite r) q f (record { rear = H .rear; front = H .front; shape = S; fill = both .0 }) (S .front)
             (long f lf .0) (lt-length-set (s .holds) f (holds-of s f - 1) (long f lf .1)) (long f lf .2)
             (λ y p. absurd (omega (arith, p, S .end)))
             (λ w ne. omega (arith, full w, u .off q ne))
@@ -277,11 +286,12 @@ module _ (M : Network) (s : Sections) (rs : List Record) (I : Invariant M s rs) 
         -- with the last flit eaten nothing is held
         ended : r .eaten + 1 ≡ r .flits → After M (t .words) i r² (next-of s¹ f) → Nothing (t .words) i
         ended all (gone z a nothing) = nothing
-        ended all (still q′ f′ H′ full′) =
-            let l = M .below q′ (H′ .shape .at q′ (H′ .shape .rear) .real) in
-            let g = load-at-least (M .numbers) i one (owner-of (t .words)) (holds-of (t .words)) q′ l (H′ .shape .rear) in
-            let a = H′ .fill .sum in
-            absurd (omega (arith, full′ (omega arith)))
+        ended all (still X) =
+            let S′ = X .held .shape in
+            let l = M .below (X .q) (S′ .at (X .q) (S′ .rear) .real) in
+            let g = load-at-least (M .numbers) i one (owner-of (t .words)) (holds-of (t .words)) (X .q) l (S′ .rear) in
+            let a = X .held .fill .sum in
+            absurd (omega (arith, X .full (omega arith)))
 
         go : Dec (T (eqb (r .eaten + 1) (r .flits))) → Kept M i s r (stepped (t .words) (finished (bite r) (t .packet)))
         go (yes all) =
@@ -305,7 +315,7 @@ module _ (M : Network) (s : Sections) (rs : List Record) (I : Invariant M s rs) 
             })
           where
             still-there : After M (t .words) i r² (next-of s¹ f) → Slot M (t .words) i r²
-            still-there (still q′ f′ H′ full′) = holds q′ f′ (refined (r .waiting) (r .eaten + 1) (L .rear) (L .front)) H′ full′
+            still-there (still X) = holds (refined (r .waiting) (r .eaten + 1) (L .rear) (L .front)) X
             still-there (gone z all nothing) = absurd (more (yes-eqb all))
 
   -- ---- every step
@@ -322,30 +332,34 @@ module _ (M : Network) (s : Sections) (rs : List Record) (I : Invariant M s rs) 
   kept t (waits fine′ W) (follows k y real mine some nx room e) = absurd (W .nothing k mine)
   kept t (waits fine′ W) (feeds q re some room e) = absurd (omega (arith, re, W .rear))
   kept t (waits fine′ W) (eats f fr here some more e) = absurd (omega (arith, fr, W .front))
-  kept t (holds q f fine′ H full) (starts d fr some ne yes-d free e) = absurd (omega (arith, fr, H .front))
-  kept t (holds q f fine′ H full) (advances k d fr some ne yes-d free e) =
-      let fk : k ≡ f = omega (arith, fr, H .front) in
+  kept t (holds fine′ X) (starts d fr some ne yes-d free e) = absurd (omega (arith, fr, X .held .front))
+  kept t (holds fine′ X) (advances k d fr some ne yes-d free e) =
+      let fk : k ≡ f = omega (arith, fr, X .held .front) in
       advanced (rw fk at some) (rw fk at yes-d) (rw fk at free) (rw fk at e)
     where
+      f : ℕ
+      f = X .f
+
       advanced : 1 ≤ holds-of s f → T (M .answer (M .far f) (going (M .way f)) (aim M r) d) → owner-of s (M .channel (M .far f) d) ≡ 0
           → t ≡ advance s i r (M .channel (M .far f) d) f → Kept M i s r t
       advanced some yes-d free e =
           let n = M .far f in
           let a = going (M .way f) in
-          let exists = H .shape .at f (H .shape .front) .real in
+          let S = X .held .shape in
+          let exists = S .at f (S .front) .real in
           let inside = M .far-inside f exists in
           rw e
-          (advance-law q f H full (M .channel n d) some free
+          (advance-law (X .q) f (X .held) (X .full) (M .channel n d) some free
           (record {
             real = M .leads n a (aim M r) d inside yes-d;
             closer = M .closer n a (aim M r) d inside yes-d;
             on = M .onward n a (aim M r) d inside yes-d;
           })
           (M .rises f (aim M r) d exists yes-d))
-  kept t (holds q f fine′ H full) (follows k y real mine some nx room e) = rw e (follow-law q f H full k y mine some nx room)
-  kept t (holds q f fine′ H full) (feeds x re some room e) =
-      let xq : x ≡ q = omega (arith, re, H .rear) in
-      rw e (feed-law q f H full some (rw xq at room))
-  kept t (holds q f fine′ H full) (eats x fr here some more e) =
-      let xf : x ≡ f = omega (arith, fr, H .front) in
-      rw e (eat-law q f H full (rw xf at here) (rw xf at some))
+  kept t (holds fine′ X) (follows k y real mine some nx room e) = rw e (follow-law (X .q) (X .f) (X .held) (X .full) k y mine some nx room)
+  kept t (holds fine′ X) (feeds x re some room e) =
+      let xq : x ≡ X .q = omega (arith, re, X .held .rear) in
+      rw e (feed-law (X .q) (X .f) (X .held) (X .full) some (rw xq at room))
+  kept t (holds fine′ X) (eats x fr here some more e) =
+      let xf : x ≡ X .f = omega (arith, fr, X .held .front) in
+      rw e (eat-law (X .q) (X .f) (X .held) (X .full) (rw xf at here) (rw xf at some))

@@ -26,13 +26,13 @@ module _ (N : Net) (deep : 1 ≤ N .depth) (G : Ranked (N .mesh)) (s : Sections)
   -- ---- the words
   hold-low : (k o : ℕ) → owner-of s k ≡ o → holds-of s k ≤ N .depth
   hold-low k zero e = omega (arith, I .free k e .0)
-  hold-low k (suc i) e = owner M s rs I k i e .held .fill .cap k e
+  hold-low k (suc i) e = owner M s rs I k i e .holding .held .fill .cap k e
 
   next-names : (k o x : ℕ) → owner-of s k ≡ o → next-of s k ≡ x → T (named x true (is-channel (N .mesh)))
   next-names k o zero e z = tt
   next-names k zero (suc y) e z = absurd (omega (arith, z, I .free k e .1))
   next-names k (suc i) (suc y) e z =
-      let S = owner M s rs I k i e .held .shape in
+      let S = owner M s rs I k i e .holding .held .shape in
       S .at y (S .at k e .nearer y z .0) .real
 
   words : T (words-fit N (length rs) s)
@@ -77,10 +77,11 @@ module _ (N : Net) (deep : 1 ≤ N .depth) (G : Ranked (N .mesh)) (s : Sections)
   fits-in i r (unused e nothing) = rw e none-fits
   fits-in i r (waits fine W) =
       live-fits r fine (omega (arith, W .waiting)) (omega (arith, W .eaten)) (rw (W .rear) tt) (rw (W .front) tt)
-  fits-in i r (holds q f fine H full) =
+  fits-in i r (holds fine X) =
+      let H = X .held in
       let S = H .shape in
-      live-fits r fine (omega (arith, H .fill .sum)) (omega (arith, H .fill .sum)) (named-by (r .rear) q (H .rear) (S .at q (S .rear) .real))
-      (named-by (r .front) f (H .front) (S .at f (S .front) .real))
+      live-fits r fine (omega (arith, H .fill .sum)) (omega (arith, H .fill .sum)) (named-by (r .rear) (X .q) (H .rear) (S .at (X .q) (S .rear) .real))
+      (named-by (r .front) (X .f) (H .front) (S .at (X .f) (S .front) .real))
 
   pub ranges : T (in-range N s rs)
   ranges =

@@ -19,15 +19,15 @@ use Rattle.wormhole.proofs.Draining.Sums.{Upd}
 use Rattle.wormhole.proofs.Draining.Shape.{Shape, shape-shorten, shape-end}
 use Rattle.wormhole.proofs.Draining.Fill.{Fill, yet-shorten, fill-shorten, fill-end}
 use Rattle.wormhole.proofs.Draining.Frames.{stored, Frame, frame-refl, frame-put}
-use Rattle.wormhole.proofs.Draining.Invariant.{Nothing, aim, away, Held, left-of}
+use Rattle.wormhole.proofs.Draining.Invariant.{Nothing, aim, away, Held, Holding, left-of}
 
 -- packet i, whose record is r, after the rule: it holds channels, or has given up the last, which had no next, with all its flits eaten
 pub data After (M : Network) (s : Sections) (i : ℕ) (r : Record) (next : ℕ) : Type 0 where
-  still : (q f : ℕ) → Held M s i r q f → (r .waiting ≡ 0 → 1 ≤ holds-of s q) → After M s i r next
+  still : Holding M s i r → After M s i r next
   gone : next ≡ 0 → r .eaten ≡ r .flits → Nothing s i → After M s i r next
 
 -- what the rule left, of a channel k and a record r
-pub record Left (M : Network) (i k : ℕ) (s : Sections) (r : Record) (t : Stepped) : Type 0 where
+pub record Released (M : Network) (i k : ℕ) (s : Sections) (r : Record) (t : Stepped) : Type 0 where
   pub frame : Frame i s (t .words)
   pub rear : ℕ
   pub front : ℕ
@@ -43,7 +43,7 @@ module _ (M : Network) (i k front : ℕ) (s : Sections) (r : Record) (q f : ℕ)
   gives-up = eqb (r .rear) (k + 1) && (eqb (r .waiting) 0 && eqb (holds-of s k) 0)
 
   -- it holds
-  released : q ≡ k → r .waiting ≡ 0 → holds-of s k ≡ 0 → Left M i k s r (release s r k front)
+  released : q ≡ k → r .waiting ≡ 0 → holds-of s k ≡ 0 → Released M i k s r (release s r k front)
   unfolding release put own hold link
   released qk w z =
       record {
@@ -86,14 +86,19 @@ module _ (M : Network) (i k front : ℕ) (s : Sections) (r : Record) (q f : ℕ)
       after zero e = let nothing = shape-end S e uo in gone e (fill-end S F w z uo uh nothing) nothing
       after (suc y) e =
           let Sy = shape-shorten S e uo ux in
-          still y f
-          (record { rear = omega (arith, e); front = omega (arith, front-stays y e, H .front); shape = Sy; fill = fill-shorten S F w z uo uh e })
-          (λ v. omega (arith, next-full y e, uh .off y (λ p. omega (arith, ap (owner-of s′) p, uo .at, Sy .rear))))
+          still
+          (record {
+            q = y;
+            f = f;
+            held =
+                record { rear = omega (arith, e); front = omega (arith, front-stays y e, H .front); shape = Sy; fill = fill-shorten S F w z uo uh e };
+            full = λ v. omega (arith, next-full y e, uh .off y (λ p. omega (arith, ap (owner-of s′) p, uo .at, Sy .rear)));
+          })
 
   -- a packet with nothing at the source has a flit in its rear, but for the channel that a flit has left
-  pub left-law : (r .waiting ≡ 0 → q ≢ k → 1 ≤ holds-of s q) → Left M i k s r (leave s r k front)
+  pub release-law : (r .waiting ≡ 0 → q ≢ k → 1 ≤ holds-of s q) → Released M i k s r (leave s r k front)
   unfolding leave
-  left-law full = go (decided gives-up)
+  release-law full = go (decided gives-up)
     where
       kept : (T gives-up → ⊥) → r .waiting ≡ 0 → Dec (q ≡ k) → Dec (holds-of s q ≡ 0) → 1 ≤ holds-of s q
       kept fails w (yes p) (yes z) =
@@ -103,7 +108,7 @@ module _ (M : Network) (i k front : ℕ) (s : Sections) (r : Record) (q f : ℕ)
       kept fails w (yes p) (no ne) = omega arith
       kept fails w (no ne) d = full w ne
 
-      go : Dec (T gives-up) → Left M i k s r (pick gives-up (release s r k front) (stepped s r))
+      go : Dec (T gives-up) → Released M i k s r (pick gives-up (release s r k front) (stepped s r))
       go (yes t) =
           let a = and-yes (eqb (r .rear) (k + 1)) (eqb (r .waiting) 0 && eqb (holds-of s k) 0) t in
           let b = and-yes (eqb (r .waiting) 0) (eqb (holds-of s k) 0) (a .1) in
@@ -116,6 +121,6 @@ module _ (M : Network) (i k front : ℕ) (s : Sections) (r : Record) (q f : ℕ)
             rear = r .rear;
             front = r .front;
             is = refl;
-            after = still q f H (λ w. kept fails w (ℕ-discrete q k) (ℕ-discrete (holds-of s q) 0));
+            after = still (record { q = q; f = f; held = H; full = λ w. kept fails w (ℕ-discrete q k) (ℕ-discrete (holds-of s q) 0) });
             same = refl;
           })
