@@ -31,6 +31,7 @@ pub use places::Row;
 pub use places::node_of;
 pub use places::place_of;
 pub use refusals::BAD_FLITS;
+pub use refusals::BAD_LIST;
 pub use refusals::BAD_MEMORY;
 pub use refusals::BAD_MOVE;
 pub use refusals::BAD_NODE;

@@ -37,6 +37,9 @@ pub const FULL: u8 = 10;
 // No shortest path is legal.
 pub const NO_PATH: u8 = 11;
 
+// A traffic list has a length that none has, or a spare bit set.
+pub const BAD_LIST: u8 = 12;
+
 // A move names no record, kind, direction or channel.
 pub const BAD_MOVE: u8 = 13;
 

@@ -36,7 +36,7 @@ pub struct Placed {
 }
 
 // The record of a packet that is at its source.
-fn fresh(source: u16, destination: u16, flits: u8) -> Record
+pub fn fresh(source: u16, destination: u16, flits: u8) -> Record
     ensures { λ r. ⌜ r ≡ fresh source destination flits ⌝ }
 {
     Record {

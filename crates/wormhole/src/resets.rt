@@ -14,7 +14,7 @@ pub struct Wiped {
 }
 
 // Makes all words 0.
-fn zero(words: &mut [u16])
+pub fn zero(words: &mut [u16])
     ensures { λ _. ⌜ now (words .exit) ≡ replicate (length (now (words .entry))) 0 ⌝ }
 {
     let mut i = 0;
