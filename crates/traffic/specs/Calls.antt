@@ -1,14 +1,17 @@
 -- The two calls: their refusals in order, and the memory that they leave. Assumes nothing.
-use Prim.Native.Nat.{ℕ, _-_}
+use Prim.Native.Nat.{ℕ, _+_, _-_}
 use mathlib.Core.Bool.{Bool}
-use mathlib.Core.List.{List, _++_}
+use mathlib.Core.List.{List, [], _∷_, _++_}
 use lib.Dec.{leb, eqb}
 use lib.ListN.{length, drop, replicate}
 use Rattle.route.specs.Grid.{pick}
+use Rattle.route.specs.Numbers.{node}
 use Rattle.route.specs.Served.{unless, bad-mesh}
 use Rattle.wormhole.specs.declared.records.Record.{Record}
 use Rattle.wormhole.specs.Memory.{none}
 use Rattle.wormhole.specs.Calls.{Left, left, bad-size, fits}
+use Rattle.wormhole.specs.Drains.{Call, offering, owes}
+use Rattle.traffic.specs.declared.headers.Header.{Header}
 use Rattle.traffic.specs.declared.reads.ListRead.{ListRead}
 use Rattle.traffic.specs.declared.pages.Written.{Written}
 use Rattle.traffic.specs.Lists.{listed, lead, after-lead, bad-headers, packets, list-of}
@@ -43,6 +46,24 @@ read bs w rs =
     let k = bad-read bs (length w) (length rs) in
     unless (λ c. left (read-answer bs k) w rs) k
     (left (read-answer bs k) (replicate (length w) 0) (filled (packets (lead bs .columns) (after-lead bs)) (length rs)))
+
+-- the offer of a header's packet
+abbrev pub offering-of : ℕ → Header → Call
+offering-of C h = offering (node C (h .source)) (node C (h .destination)) (h .flits)
+
+-- those of headers, in their order
+abbrev pub offerings : ℕ → List Header → List Call
+offerings C [] = []
+offerings C (h ∷ hs) = offering-of C h ∷ offerings C hs
+
+-- the moves that a header's packet owes
+abbrev pub due : ℕ → Header → ℕ
+due C h = owes C (node C (h .source)) (node C (h .destination)) (h .flits)
+
+-- those of headers together
+abbrev pub dues : ℕ → List Header → ℕ
+dues C [] = 0
+dues C (h ∷ hs) = due C h + dues C hs
 
 -- ---- writing
 -- what a call leaves that writes bytes: its answer, and the lent bytes

@@ -21,7 +21,7 @@ mod Meshes
 mod Reading
 mod Ranging
 -- calls
-mod Answers
+pub mod Answers
 mod Accounts
 pub mod Drained
 pub mod Example

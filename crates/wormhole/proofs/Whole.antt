@@ -81,7 +81,7 @@ module _ (C R : ℕ) where
 
   -- as the promises say it, under a rule
   module _ (rule : ℕ) where
-    surveyed-fit : (rs : List Record) → surveyed C R rs (length rs) .fit ≡ every (record-fits (net C R rule .mesh)) rs
+    pub surveyed-fit : (rs : List Record) → surveyed C R rs (length rs) .fit ≡ every (record-fits (net C R rule .mesh)) rs
     surveyed-fit rs = ap (λ (s : Found). s .fit) (surveyed-all rs) ∙ every-same (record-fits (sides C R)) (record-fits (net C R rule .mesh)) (same-record C R rule) rs
 
 -- ---- reset

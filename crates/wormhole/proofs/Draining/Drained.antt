@@ -160,6 +160,10 @@ module _ (C R rule count : ℕ) where
 pub drains : Demand
 drains C R rule count c c′ r r′ k o o′ cs = after-any C R rule count (answers.sizes-served C R rule count c c′ r r′ k o o′) cs
 
+-- memory keeps its sizes
+pub lengths : (C R rule count : ℕ) (cs : List Call) → (length (now C R rule count cs .words) ≡ needed C R) × (length (now C R rule count cs .records) ≡ count)
+lengths C R rule count cs = let G = runs C R rule count (empty C R count) (good-empty C R rule count) cs .0 in (G .long, G .many)
+
 -- a mesh that a reset was accepted for is the empty one, whatever memory held
 pub reset-empties : (C R : ℕ) (w : List ℕ) (rs : List Record) → let o = reset C R w rs in o .answer ≡ 0
     → record { words = o .words; records = o .records } ≡ empty C R (length rs)

@@ -32,5 +32,5 @@ pub use Rattle.wormhole.proofs.Walks.Kinds.{Kind, Fits, num, bool, unit
 pub use Rattle.wormhole.proofs.Walks.Locals.{number, lets, gets, _▸_, Homes, envOf, deaths, held, enters, leaves, leaves-within, fades, known, notes, the, part, lends}
 pub use Rattle.wormhole.proofs.Walks.Loops.{counts}
 pub use Rattle.wormhole.proofs.Walks.Loans.{Loan, counted, ref, val, mine, ours}
-pub use Rattle.wormhole.proofs.Walks.Calls.{calls-plain, calls-shr, calls-shown, calls-lent}
-pub use Rattle.wormhole.proofs.Walks.Shapes.{Ends, meets-shr, meets-mut, meets-two}
+pub use Rattle.wormhole.proofs.Walks.Calls.{and-fact, calls-plain, calls-shr, calls-shown, calls-lent, calls-beside}
+pub use Rattle.wormhole.proofs.Walks.Shapes.{Ends, meets-shr, meets-mut, meets-two, loan, shared, lent, meets-three}
