@@ -24,19 +24,18 @@ ghost use Rattle.report.specs.Coded.{counts};
 fn hops(h: Header) -> u32
     ensures { λ n. ⌜ n ≡ dist (h .source) (h .destination) ⌝ }
 {
-    (h.source.column.hops(h.destination.column) as u32) + (h.source.row.hops(h.destination.row) as u32)
+    (h.source.column.hops(h.destination.column) as u32)
+        + (h.source.row.hops(h.destination.row) as u32)
 }
 
 // Writes the line of packet i. Returns where the next byte goes.
 fn put_line(out: &mut [u8], end: usize, i: u32, h: Header, moves: u32) -> usize
     ensures { λ e. ⌜ page (now (out .exit)) e ≡ puts (page (now (out .entry)) end) (line i h moves) ⌝ }
 {
-    let place = put_number(out, end, i);
-    let first = put(out, place, b' ');
-    let distance = put_number(out, first, hops(h));
-    let second = put(out, distance, b' ');
-    let counted = put_number(out, second, moves);
-    put(out, counted, b'\n')
+    let placed = put_number(out, end, i);
+    let spaced = put(out, placed, b' ');
+    let distant = put_number(out, spaced, hops(h));
+    put_said(out, distant, b" ", moves)
 }
 
 // Writes the line of each packet. Returns where the next byte goes.

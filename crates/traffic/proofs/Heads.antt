@@ -144,6 +144,10 @@ module _ (bs : List ℕ) (i : ℕ) (low : i < length bs / 3) {h : Header} (eh : 
   same-header : getD (headers bs) i h ≡ h
   same-header = header-there bs i h low ∙ sym eh
 
+  -- the headers from place i on begin with it
+  pub header-made : drop i (headers bs) ≡ h ∷ drop (suc i) (headers bs)
+  header-made = rw (drop-cons (headers bs) i h (omega (arith, length-headers bs)), same-header) refl
+
   pub low-flits : (C R : ℕ) → bad-headers C R (headers bs) ≡ 0 → h .flits ≤ 200
   low-flits C R e = flits-low C R h (rw same-header at (good-there C R (headers bs) i h (omega (arith, length-headers bs)) e))
 

@@ -11,7 +11,8 @@ use wormhole::Record;
 use wormhole::fresh;
 use wormhole::none;
 ghost use mathlib.Core.Path.{_≡_};
-ghost use Prim.Native.Nat.{_+_, _<_, _≤_};
+ghost use mathlib.Core.List.{_∷_};
+ghost use Prim.Native.Nat.{suc, _+_, _<_, _≤_};
 ghost use lib.ListN.{length, getD, drop};
 ghost use Rattle.wormhole.specs.Memory.{none};
 ghost use Rattle.traffic.specs.Lists.{place-in, header, headers, after-lead, outside, bad-header, bad-headers, packets};
@@ -43,6 +44,15 @@ fn header_at(bytes: &[u8], at: usize) -> Header
         destination: place_in(bytes[at + 1]),
         flits: bytes[at + 2] as u16 + 1,
     }
+}
+
+// The header of packet i of a list.
+pub fn header_of(list: &[u8], i: usize) -> Header
+    requires { ⌜ 2 ≤ length (now list) ⌝ }
+    requires { ⌜ i < length (after-lead (now list)) ⌝ }
+    ensures { λ h. ⌜ drop i (after-lead (now (list .entry))) ≡ h ∷ drop (suc i) (after-lead (now (list .entry))) ⌝ }
+{
+    header_at(&list[2..], 3 * i)
 }
 
 // Is a place outside a mesh of these sides?

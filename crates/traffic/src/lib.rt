@@ -10,10 +10,12 @@ mod reads;
 mod writes;
 
 pub use headers::Header;
+pub use headers::header_of;
 pub use headers::packet_at;
 pub use lists::Lead;
 pub use lists::bad_read;
 pub use lists::lead_of;
+pub use lists::packets_of;
 pub use pages::Written;
 pub use pages::put;
 pub use reads::ListRead;
