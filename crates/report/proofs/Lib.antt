@@ -10,6 +10,7 @@ mod Loading
 mod Settling
 mod Spelling
 mod Lengths
+mod Reporting
 mod Tracing
 mod Complete
 mod Ending
