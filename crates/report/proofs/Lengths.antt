@@ -49,10 +49,12 @@ line-short i h m hi hd hm =
     simp length-append (omega (arith, few-digits 1 i hi, few-digits 1 (dist (h .source) (h .destination)) hd, few-digits 5 m hm))
 
 module _ (C R : ℕ) (hc : C ≤ 16) (hr : R ≤ 16) where
+  -- sides of at most 16 give at most 30 hops
   near : (h : Header) → Good C R h → dist (h .source) (h .destination) < 100
   unfolding dist gap
   near h g = omega arith
 
+  -- as many lines as headers
   lines-short : (i : ℕ) (hs : List Header) (made : ℕ → ℕ) → bad-headers C R hs ≡ 0 → i + length hs ≤ 100 → ((j : ℕ) → made j < 1000000)
       → length (lines i hs made) ≤ 13 * length hs
   unfolding lines
@@ -64,6 +66,7 @@ module _ (C R : ℕ) (hc : C ≤ 16) (hr : R ≤ 16) where
 
 -- ---- the sheet of a list that is accepted
 module _ (bs : List ℕ) (words : ℕ) (z : bad-read bs words 64 ≡ 0) (S : Tally) (few : sum (S .made) ≤ 396800) where
+  -- the heading, at most 64 lines and the total
   drained-short : length (drained-sheet bs (S .made)) ≤ 1024
   drained-short =
       let r = readable bs words 64 refl z in
@@ -77,6 +80,7 @@ module _ (bs : List ℕ) (words : ℕ) (z : bad-read bs words 64 ≡ 0) (S : Tal
             (r .good) (omega arith) (λ i. omega (arith, at-most-sum (S .made) i)),
       ))
 
+  -- and a stalled one is shorter
   pub sheet-short : length (sheet bs S) ≤ 1024
   sheet-short = either (idle (S .lent .records))
     where

@@ -10,7 +10,7 @@ mod Loading
 mod Settling
 mod Spelling
 mod Lengths
-mod Reporting
+pub mod Reporting
 mod Tracing
 mod Complete
 mod Ending

@@ -6,8 +6,9 @@ use mathlib.Core.Bool.{Bool, true, false, not, _&&_, _||_}
 use mathlib.Core.List.{List, [], _∷_, _++_}
 use native.Mathlib.Omega.{arith}
 use lib.Dec.{leb, ltb, eqb}
-use lib.ListN.{length, take, drop, replicate, length-take}
-use borrow.Author.Tests.{lt-leb, lt-ltb, le-ltb, not-true, not-false}
+use lib.ListN.{length, take, drop, replicate, length-append, length-take}
+use lib.Seq.{length-take-le}
+use borrow.Author.Tests.{lt-leb, lt-ltb, le-ltb, ltb-true, ltb-false, not-true, not-false}
 use Rattle.route.specs.Grid.{pick}
 use Rattle.route.specs.Numbers.{channels}
 use Rattle.route.specs.Served.{off-side, unless, bad-mesh}
@@ -18,6 +19,7 @@ use Rattle.wormhole.specs.Range.{flits-served}
 use Rattle.wormhole.specs.Calls.{needed}
 use Rattle.traffic.specs.declared.headers.Header.{Header}
 use Rattle.traffic.specs.declared.lists.Lead.{Lead}
+use Rattle.traffic.specs.declared.pages.Written.{Written}
 use Rattle.traffic.specs.Lists.{listed, lead, after-lead, outside, bad-header, bad-headers}
 use Rattle.traffic.specs.Calls.{bad-read, written, over}
 use Rattle.traffic.specs.Coded.{Page, page, puts}
@@ -224,3 +226,21 @@ module _ (bs w out : List ℕ) (room : 1024 ≤ length out) where
 pub report-refused : (bs w out : List ℕ) → length out < 1024 → record { answer = written 7 0; words = w; bytes = out } ≡ report bs w out
 unfolding report
 report-refused bs w out h = rw (lt-ltb (length out) 1024 h) refl
+
+-- ---- what is written is within the bytes
+module _ (bs w out : List ℕ) {o : Written} (v p : List ℕ) (e : record { answer = o; words = v; bytes = p } ≡ report bs w out) where
+  pub report-within : o .length ≤ length p
+  report-within = by (ltb (length out) 1024) refl
+    where
+      by : (b : Bool) → ltb (length out) 1024 ≡ b → o .length ≤ length p
+      by true t =
+          let n : o .length ≡ 0 = ap (λ (x : Reported). x .answer .length) (e ∙ sym (report-refused bs w out (ltb-true (length out) 1024 t))) in
+          omega (arith, n)
+      by false t =
+          let W = whole-of bs w out (ltb-false (length out) 1024 t) in
+          let n : o .length ≡ length (W .text) = ap (λ (x : Reported). x .answer .length) (e ∙ W .whole) in
+          let q : length p ≡ length (over (W .text) out) = ap (λ (x : Reported). length (x .bytes)) (e ∙ W .whole) in
+          omega (arith, n, q, length-append (W .text) (drop (length (W .text)) out))
+
+  pub report-part : o .length ≡ length (take (o .length) p)
+  report-part = sym (length-take-le (o .length) p report-within)

@@ -1,7 +1,7 @@
--- The sum of the hops that the two coordinates differ by. Assumes nothing.
+-- The columns' difference and the rows', added. Assumes nothing.
 use native.Mathlib.Omega.{arith}
-use Rattle.route.specs.Grid.{dist}
 use borrow.Author.Needs.{needs}
+use Rattle.route.specs.Grid.{dist}
 use Rattle.report.proofs.sheets.hops.Statement.{statement}
 use Rattle.report.proofs.sheets.hops.Tie as tie
 

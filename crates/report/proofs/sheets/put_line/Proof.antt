@@ -1,4 +1,4 @@
--- One piece after another. Assumes nothing.
+-- A line is put piece by piece. Assumes nothing.
 use borrow.Author.Needs.{needs}
 use Rattle.report.proofs.Spelling.{put-line}
 use Rattle.report.proofs.sheets.put_line.Statement.{statement}

@@ -1,4 +1,4 @@
--- One piece after another. Assumes nothing.
+-- The heading, the lines and the total are put one after another. Assumes nothing.
 use borrow.Author.Needs.{needs}
 use Rattle.report.proofs.Spelling.{put-sheet}
 use Rattle.report.proofs.sheets.put_sheet.Statement.{statement}

@@ -1,4 +1,4 @@
--- One piece after another. Assumes nothing.
+-- The word, the number and the newline are put one after another. Assumes nothing.
 use borrow.Author.Needs.{needs}
 use Rattle.report.proofs.Spelling.{put-said}
 use Rattle.report.proofs.texts.put_said.Statement.{statement}
