@@ -60,3 +60,10 @@ unfolding sum
 sum-grown [] i k = omega arith
 sum-grown (n ∷ ns) zero k = omega arith
 sum-grown (n ∷ ns) (suc i) k = omega (arith, sum-grown ns i k)
+
+-- and just so much where there is such a one
+pub sum-set : (l : List ℕ) (i n : ℕ) → i < length l → sum (set l i (getD l i 0 + n)) ≡ sum l + n
+unfolding sum
+sum-set [] i n low = absurd (omega arith)
+sum-set (x ∷ l) zero n low = omega arith
+sum-set (x ∷ l) (suc i) n low = omega (arith, sum-set l i n (omega arith))

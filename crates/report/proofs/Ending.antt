@@ -8,15 +8,15 @@ use mathlib.Core.List.{List, [], _∷_, _++_}
 use native.Mathlib.Decide.{ℕ-discrete}
 use native.Mathlib.Omega.{arith}
 use lib.Dec.{eqb}
-use lib.ListN.{length, length-replicate}
+use lib.ListN.{length}
 use borrow.Author.Tests.{eq-eqb, ne-eqb}
 use Rattle.route.specs.Grid.{pick}
-use Rattle.wormhole.specs.Memory.{none}
 use Rattle.wormhole.specs.Range.{every}
 use Rattle.wormhole.specs.Drains.{Lent, Move, Call, movings, empty, moves, run, now, remaining, Drains}
-use Rattle.wormhole.proofs.Draining.Drained.{drains}
+use Rattle.wormhole.proofs.Draining.Lists.{run-append}
+use Rattle.wormhole.proofs.Draining.Drained.{drains, lengths}
 use Rattle.report.specs.Sweeps.{Tally, sum, idle, sweep, drained}
-use Rattle.report.proofs.Tracing.{run-append, kept, many-run, Trace, traced, sweeps-traced}
+use Rattle.report.proofs.Tracing.{kept, Trace, traced, sweeps-traced}
 use Rattle.report.proofs.Complete.{quiet}
 
 module _ (C R rule : ℕ) where
@@ -69,7 +69,7 @@ module _ (C R rule : ℕ) where
     E = drained C R rule n S
 
     even : length (S .lent .records) ≡ length (S .made)
-    even = ap (λ (M : Lent). length (M .records)) there ∙ (many-run C R rule (empty C R 64) cs ∙ (length-replicate 64 none ∙ sym long))
+    even = ap (λ (M : Lent). length (M .records)) there ∙ (lengths C R rule 64 cs .1 ∙ sym long)
 
     -- the moves that were made
     pub trace : Trace C R rule S E

@@ -14,3 +14,4 @@ pub mod Reporting
 mod Tracing
 mod Complete
 mod Ending
+pub mod Promises

@@ -23,6 +23,7 @@ use Rattle.wormhole.proofs.Every.{both, every-at}
 use Rattle.wormhole.proofs.AnyRule.{same-record}
 use Rattle.wormhole.proofs.Refusing.{none-first, none-if}
 use Rattle.wormhole.proofs.ByKind.{record-served, memory-served}
+use Rattle.wormhole.proofs.Draining.Lists.{run-append, total-append}
 use Rattle.wormhole.proofs.Draining.Answers.{sizes-served}
 use Rattle.wormhole.proofs.Draining.Drained.{drains, lengths}
 use Rattle.report.specs.Sweeps.{Tally, sum, turn, tried, turns, drained}
@@ -30,18 +31,6 @@ use Rattle.report.specs.Coded.{Reached}
 use Rattle.report.proofs.Counting.{at-most-sum, sum-grown}
 
 module _ (C R rule : ℕ) where
-  -- ---- one call more
-  run-last : (M : Lent) (cs : List Call) (c : Call) → run C R rule M (cs ++ (c ∷ [])) ≡ after C R rule (run C R rule M cs) c
-  unfolding run
-  run-last M [] c = refl
-  run-last M (d ∷ cs) c = run-last (after C R rule M d) cs c
-
-  total-last : (adds : Lent → Call → ℕ) (M : Lent) (cs : List Call) (c : Call)
-      → total C R rule adds M (cs ++ (c ∷ [])) ≡ total C R rule adds M cs + adds (run C R rule M cs) c
-  unfolding total run
-  total-last adds M [] c = omega arith
-  total-last adds M (d ∷ cs) c = omega (arith, total-last adds (after C R rule M d) cs c)
-
   module _ (S : Tally) (H : Reached C R rule S) where
     abbrev w : List ℕ
     w = S .lent .words
@@ -100,11 +89,11 @@ module _ (C R rule : ℕ) where
 
     -- ---- one try more
     pub reached-tried : (v : Move) → Reached C R rule (tried C R rule S v)
-    unfolding tried
+    unfolding tried run total
     reached-tried v =
         let cs = H .calls ++ (moving v ∷ []) in
         let start = empty C R 64 in
-        let there : after C R rule (S .lent) (moving v) ≡ now C R rule 64 cs = rw (H .there) (sym (run-last start (H .calls) (moving v))) in
+        let there : after C R rule (S .lent) (moving v) ≡ now C R rule 64 cs = rw (H .there) (sym (run-append C R rule start (H .calls) (moving v ∷ []))) in
         let count : makes C R rule any (S .lent) (moving v) ≡ makes C R rule any (now C R rule 64 (H .calls)) (moving v) = ap (λ (M : Lent). makes C R rule any M (moving v)) (H .there) in
         record {
           columns-low = H .columns-low;
@@ -114,9 +103,9 @@ module _ (C R rule : ℕ) where
           ruled = H .ruled;
           calls = cs;
           there = there;
-          few = omega (arith, H .few, total-last (brings C R rule any) start (H .calls) (moving v));
+          few = omega (arith, H .few, total-append C R rule (brings C R rule any) start (H .calls) (moving v ∷ []));
           long = length-set (S .made) (v .packet) _ ∙ H .long;
-          low = omega (arith, H .low, count, total-last (makes C R rule any) start (H .calls) (moving v), sum-grown (S .made) (v .packet) (makes C R rule any (S .lent) (moving v)));
+          low = omega (arith, H .low, count, total-append C R rule (makes C R rule any) start (H .calls) (moving v ∷ []), sum-grown (S .made) (v .packet) (makes C R rule any (S .lent) (moving v)));
         }
 
   -- ---- turns and sweeps

@@ -23,7 +23,7 @@ use Rattle.report.specs.Coded.{recs, counts, tally, Reached}
 use Rattle.report.proofs.Reaching.{reached-turns, long-words, few-made}
 
 -- ---- a list that was read
-sum-zeros : (n : ℕ) → sum (replicate n 0) ≡ 0
+pub sum-zeros : (n : ℕ) → sum (replicate n 0) ≡ 0
 unfolding sum
 sum-zeros zero = refl
 sum-zeros (suc n) = omega (arith, sum-zeros n)
@@ -45,7 +45,7 @@ module _ (bs w : List ℕ) (z : bad-read bs (length w) 64 ≡ 0) where
   pub readable-so : Readable bs (length w) 64
   readable-so = readable bs (length w) 64 (sym z) refl
 
-  pub reached : Reached C R rule source
+  abbrev pub reached : Reached C R rule source
   reached =
       let m = readable-so .sizes .mesh in
       record {

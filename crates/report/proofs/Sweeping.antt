@@ -39,8 +39,10 @@ own-turned n t p l = by (ltb (t % 6) 4) (λ e. lt-of (t % 6) e) (λ e. ge-of (t 
   where
     lt-of : (j : ℕ) → ltb j 4 ≡ true → j < 4
     lt-of j e = ltb-true j 4 e
+
     ge-of : (j : ℕ) → ltb j 4 ≡ false → 4 ≤ j
     ge-of j e = ltb-false j 4 e
+
     by : (b : Bool) → (b ≡ true → t % 6 < 4) → (b ≡ false → 4 ≤ t % 6)
         → Turned n (record { packet = t / 6; kind = pick b 0 (t % 6 - 2); channel = 0; direction = t % 6 })
     by true f g = record { packets = omega (arith, l); kinds = omega arith; ways = λ _. f refl; numbers = p }

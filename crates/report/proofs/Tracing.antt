@@ -14,58 +14,23 @@ use lib.Seq.{set-getD, getD-set-same, getD-set-other}
 use borrow.Author.Tests.{eq-eqb, ne-eqb}
 use Rattle.route.specs.Grid.{pick}
 use Rattle.route.specs.Numbers.{channels}
-use Rattle.wormhole.specs.Drains.{Lent, Move, Call, offering, moving, movings, any, offers, moves, after, run, makes, total, accepted}
-use Rattle.wormhole.proofs.Draining.Answers.{Moved, moved, unmoved, taken, untaken}
+use Rattle.wormhole.specs.Drains.{Lent, Move, Call, moving, movings, any, moves, after, run, makes, total, accepted}
+use Rattle.wormhole.proofs.Draining.Lists.{run-append, total-append}
+use Rattle.wormhole.proofs.Draining.Answers.{Moved, moved, unmoved}
 use Rattle.report.specs.Sweeps.{Tally, sum, turn, tried, turns, sweep, drained}
+use Rattle.report.proofs.Counting.{sum-set}
 
 -- ---- lists
 pub movings-append : (us vs : List Move) → movings (us ++ vs) ≡ movings us ++ movings vs
 movings-append [] vs = refl
 movings-append (u ∷ us) vs = ap (λ (l : List Call). moving u ∷ l) (movings-append us vs)
 
--- a sum with more at one place
-sum-set : (l : List ℕ) (i n : ℕ) → i < length l → sum (set l i (getD l i 0 + n)) ≡ sum l + n
-unfolding sum
-sum-set [] i n low = absurd (omega arith)
-sum-set (x ∷ l) zero n low = omega arith
-sum-set (x ∷ l) (suc i) n low = omega (arith, sum-set l i n (omega arith))
-
 module _ (C R rule : ℕ) where
-  -- ---- calls after calls
-  pub run-append : (M : Lent) (xs ys : List Call) → run C R rule M (xs ++ ys) ≡ run C R rule (run C R rule M xs) ys
-  unfolding run
-  run-append M [] ys = refl
-  run-append M (x ∷ xs) ys = run-append (after C R rule M x) xs ys
-
-  pub total-append : (adds : Lent → Call → ℕ) (M : Lent) (xs ys : List Call)
-      → total C R rule adds M (xs ++ ys) ≡ total C R rule adds M xs + total C R rule adds (run C R rule M xs) ys
-  unfolding run total
-  total-append adds M [] ys = omega arith
-  total-append adds M (x ∷ xs) ys = omega (arith, total-append adds (after C R rule M x) xs ys)
-
   -- a move that is refused leaves memory as it was
   pub kept : (M : Lent) (v : Move) → moves C R rule M v .answer ≢ 0 → after C R rule M (moving v) ≡ M
   kept M v ne =
       let same = unmoved C R rule (M .words) (M .records) (v .packet) (v .kind) (v .channel) (v .direction) ne in
       λ j. record { words = same .0 j; records = same .1 j }
-
-  -- no call changes the number of records
-  many : (M : Lent) (x : Call) → length (after C R rule M x .records) ≡ length (M .records)
-  many M (offering a b f) = by (ℕ-discrete (offers C R rule M a b f .answer .refusal) 0)
-    where
-      by : Dec (offers C R rule M a b f .answer .refusal ≡ 0) → length (offers C R rule M a b f .records) ≡ length (M .records)
-      by (yes e) = rw (taken C R rule (M .words) (M .records) a b f e .records) (simp length-set)
-      by (no ne) = ap length (untaken C R rule (M .words) (M .records) a b f ne .1)
-  many M (moving v) = by (ℕ-discrete (moves C R rule M v .answer) 0)
-    where
-      by : Dec (moves C R rule M v .answer ≡ 0) → length (moves C R rule M v .records) ≡ length (M .records)
-      by (yes e) = rw (moved C R rule (M .words) (M .records) (v .packet) (v .kind) (v .channel) (v .direction) e .records) (simp length-set)
-      by (no ne) = ap (λ (X : Lent). length (X .records)) (kept M v ne)
-
-  pub many-run : (M : Lent) (xs : List Call) → length (run C R rule M xs .records) ≡ length (M .records)
-  unfolding run
-  many-run M [] = refl
-  many-run M (x ∷ xs) = many-run (after C R rule M x) xs ∙ many M x
 
   -- ---- from one tally to another by moves that are counted; the second has a count for each record
   pub record Trace (S T : Tally) : Type 0 where
@@ -83,11 +48,11 @@ module _ (C R rule : ℕ) where
   joins {S} P Q =
       record {
         through = P .through ++ Q .through;
-        lent = rw (movings-append (P .through) (Q .through), run-append, ← P .lent) (Q .lent);
+        lent = rw (movings-append (P .through) (Q .through), run-append C R rule, ← P .lent) (Q .lent);
         own = λ i.
-            rw (movings-append (P .through) (Q .through), total-append (makes C R rule (eqb i)) (S .lent), ← P .lent)
+            rw (movings-append (P .through) (Q .through), total-append C R rule (makes C R rule (eqb i)) (S .lent), ← P .lent)
             (omega (arith, P .own i, Q .own i));
-        all = rw (movings-append (P .through) (Q .through), total-append (makes C R rule any) (S .lent), ← P .lent) (omega (arith, P .all, Q .all));
+        all = rw (movings-append (P .through) (Q .through), total-append C R rule (makes C R rule any) (S .lent), ← P .lent) (omega (arith, P .all, Q .all));
         even = Q .even;
       }
 

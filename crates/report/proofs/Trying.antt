@@ -101,11 +101,11 @@ module _ (C R rule : ℕ) (w : List ℕ) (cs : List Counted) (H : Reached C R ru
       let z = answers-yes C R rule S H v few t in
       let g = answers.moved C R rule w (recs cs) (v .packet) (v .kind) (v .channel) (v .direction) z in
       let ew : w′ ≡ move C R rule w (recs cs) (v .packet) (v .kind) (v .channel) (v .direction) .words =
-          sym (rejoined (channels C R) w′) ∙ (ap (λ (a : Attempt). joined (a .words)) e ∙ rw (← same) (sym (g .words))) in
+      sym (rejoined (channels C R) w′) ∙ (ap (λ (a : Attempt). joined (a .words)) e ∙ rw (← same) (sym (g .words))) in
       let er : recs (set cs (v .packet) q) ≡ move C R rule w (recs cs) (v .packet) (v .kind) (v .channel) (v .direction) .records =
-          recs-set cs (v .packet) q ∙ (ap (λ (a : Attempt). set (recs cs) (v .packet) (a .counted .packet)) e ∙ rw (← same) (sym (g .records))) in
+      recs-set cs (v .packet) q ∙ (ap (λ (a : Attempt). set (recs cs) (v .packet) (a .counted .packet)) e ∙ rw (← same) (sym (g .records))) in
       let ec : counts (set cs (v .packet) q) ≡ set (counts cs) (v .packet) (getD (counts cs) (v .packet) 0 + makes C R rule any (S .lent) (moving (move-of v))) =
-          counts-set cs (v .packet) q ∙ (ap (λ (a : Attempt). set (counts cs) (v .packet) (a .counted .moves)) e ∙ rw (z, counts-at cs (v .packet) d low) (ap (set (counts cs) (v .packet)) (omega arith))) in
+      counts-set cs (v .packet) q ∙ (ap (λ (a : Attempt). set (counts cs) (v .packet) (a .counted .moves)) e ∙ rw (z, counts-at cs (v .packet) d low) (ap (set (counts cs) (v .packet)) (omega arith))) in
       λ i. record { lent = record { words = ew i; records = er i }; made = ec i }
   tried-is false p w′ q e =
       let off : asked C R rule S H v few ≡ false = rw same p in
@@ -114,10 +114,10 @@ module _ (C R rule : ℕ) (w : List ℕ) (cs : List Counted) (H : Reached C R ru
       let eq : q ≡ c = ap (λ (a : Attempt). a .counted) e in
       let stays : set cs (v .packet) q ≡ cs = rw eq (set-getD cs (v .packet) d) in
       let ew : w′ ≡ move C R rule w (recs cs) (v .packet) (v .kind) (v .channel) (v .direction) .words =
-          sym (rejoined (channels C R) w′) ∙ (ap (λ (a : Attempt). joined (a .words)) e ∙ (rejoined (channels C R) w ∙ sym (u .0))) in
+      sym (rejoined (channels C R) w′) ∙ (ap (λ (a : Attempt). joined (a .words)) e ∙ (rejoined (channels C R) w ∙ sym (u .0))) in
       let er : recs (set cs (v .packet) q) ≡ move C R rule w (recs cs) (v .packet) (v .kind) (v .channel) (v .direction) .records = ap recs stays ∙ sym (u .1) in
       let ec : counts (set cs (v .packet) q) ≡ set (counts cs) (v .packet) (getD (counts cs) (v .packet) 0 + makes C R rule any (S .lent) (moving (move-of v))) =
-          ap counts stays ∙ sym (rw (ne-eqb (moves C R rule (S .lent) (move-of v) .answer) 0 n) (ap (set (counts cs) (v .packet)) (omega arith) ∙ set-getD (counts cs) (v .packet) 0)) in
+      ap counts stays ∙ sym (rw (ne-eqb (moves C R rule (S .lent) (move-of v) .answer) 0 n) (ap (set (counts cs) (v .packet)) (omega arith) ∙ set-getD (counts cs) (v .packet) 0)) in
       λ i. record { lent = record { words = ew i; records = er i }; made = ec i }
 
   -- what `attempt` leaves of a packet is what the machine leaves of all

@@ -77,7 +77,13 @@ pub fn is_idle(all: [Counted; 64]) -> bool
 }
 
 // Tries every move once, one turn after another.
-fn sweep(words: &mut [u16], columns: u8, rows: u8, rule: u8, packets: [Counted; 64]) -> [Counted; 64]
+fn sweep(
+    words: &mut [u16],
+    columns: u8,
+    rows: u8,
+    rule: u8,
+    packets: [Counted; 64],
+) -> [Counted; 64]
     requires { ⌜ Reached columns rows rule (tally (now words) packets) ⌝ }
     ensures { λ r. ⌜ tally (now (words .exit)) r ≡ sweep columns rows rule (tally (now (words .entry)) packets) ⌝ }
 {

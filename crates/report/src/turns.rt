@@ -133,15 +133,7 @@ pub fn attempt(words: &mut [u16], m: Mesh, v: Turn, c: Counted) -> Counted
     if !is_accepted(words, m, v, c.packet) {
         return c;
     }
-    let packet = act(
-        words,
-        m,
-        v.packet,
-        c.packet,
-        v.kind,
-        v.channel,
-        v.direction,
-    );
+    let packet = act(words, m, v.packet, c.packet, v.kind, v.channel, v.direction);
     Counted {
         packet,
         moves: c.moves + 1,

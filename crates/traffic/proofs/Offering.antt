@@ -17,6 +17,7 @@ use Rattle.wormhole.specs.Memory.{none}
 use Rattle.wormhole.specs.Calls.{left, offered, needed, bad-size, fits, lowest, bad-offer, offer}
 use Rattle.wormhole.specs.Drains.{Lent, Call, empty, any, offers, after, run, brings, makes, total, now, work, made, Drains}
 use Rattle.wormhole.proofs.Refusing.{sized}
+use Rattle.wormhole.proofs.Draining.Lists.{run-append}
 use Rattle.wormhole.proofs.Draining.Drained.{drains}
 use Rattle.traffic.specs.declared.headers.Header.{Header}
 use Rattle.traffic.specs.Lists.{lead, after-lead, bad-headers, packets, offered as at-source}
@@ -77,12 +78,6 @@ module _ (C R rule count : ℕ) (size : bad-size C R rule (needed C R) count ≡
     unfolding offer
     takes fit = rw (accepted fit, low, there) refl
 
-  -- calls one after another
-  pub runs : (M : Lent) (cs ds : List Call) → run C R rule M (cs ++ ds) ≡ run C R rule (run C R rule M cs) ds
-  unfolding run
-  runs M [] ds = refl
-  runs M (c ∷ cs) ds = runs (after C R rule M c) cs ds
-
   -- offers to memory that some calls have reached; what they bring to records that all pass a test, or all fail it
   pub reaches : (cs : List Call) (before hs : List Header) → now C R rule count cs ≡ holding C R count before → bad-headers C R hs ≡ 0
       → length before + length hs ≤ count
@@ -101,7 +96,7 @@ module _ (C R rule count : ℕ) (size : bad-size C R rule (needed C R) count ≡
       let fit = subst (λ (m : Lent). T (fits C R rule (m .words) (m .records))) e (drained cs .ranged) in
       let t = takes before h (g .0) (omega (arith, room)) fit in
       let next : after C R rule (holding C R count before) c ≡ holding C R count (before ++ (h ∷ [])) = rw t refl in
-      let here = runs (empty C R count) cs (c ∷ []) ∙ (ap (λ m. after C R rule m c) e ∙ next) in
+      let here = run-append C R rule (empty C R count) cs (c ∷ []) ∙ (ap (λ m. after C R rule m c) e ∙ next) in
       let l = length-append before (h ∷ []) in
       let q = reaches (cs ++ (c ∷ [])) (before ++ (h ∷ [])) hs here (g .1) (omega (arith, room, l)) in (
         ap (λ m. run C R rule m (offerings C hs)) next ∙ (q .0 ∙ ap (holding C R count) (append-snoc before h hs)),

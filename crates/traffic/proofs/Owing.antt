@@ -18,12 +18,13 @@ use Rattle.wormhole.specs.declared.records.Record.{Record}
 use Rattle.wormhole.specs.Memory.{none}
 use Rattle.wormhole.specs.Calls.{needed, bad-size}
 use Rattle.wormhole.specs.Drains.{Lent, Call, Move, moving, movings, empty, after, run, brings, makes, total, now}
+use Rattle.wormhole.proofs.Draining.Lists.{run-append, total-append, none-brought}
 use Rattle.traffic.specs.declared.headers.Header.{Header}
 use Rattle.traffic.specs.Lists.{lead, after-lead}
 use Rattle.traffic.specs.Calls.{bad-read, offering-of, offerings, due}
 use Rattle.traffic.proofs.Heads.{Good, first-good, both-good}
 use Rattle.traffic.proofs.Refusals.{Readable, readable}
-use Rattle.traffic.proofs.Offering.{runs, drained, reaches, now-holding, none-made, read-size, all-accepted}
+use Rattle.traffic.proofs.Offering.{drained, reaches, now-holding, none-made, read-size, all-accepted}
 
 -- flits × (distance + 1), by the header's own places
 pub due-is : (C R : ℕ) (h : Header) → Good C R h → due C h ≡ h .flits * (dist (h .source) (h .destination) + 1)
@@ -41,20 +42,6 @@ due-is C R h g =
 offerings-both : (C : ℕ) (hs is : List Header) → offerings C (hs ++ is) ≡ offerings C hs ++ offerings C is
 offerings-both C [] is = refl
 offerings-both C (h ∷ hs) is = ap (λ (l : List Call). offering-of C h ∷ l) (offerings-both C hs is)
-
-module _ (C R rule : ℕ) where
-  -- what calls add, of two lists one after another
-  totals : (adds : Lent → Call → ℕ) (M : Lent) (cs ds : List Call)
-      → total C R rule adds M (cs ++ ds) ≡ total C R rule adds M cs + total C R rule adds (run C R rule M cs) ds
-  unfolding run total
-  totals adds M [] ds = omega arith
-  totals adds M (c ∷ cs) ds = omega (arith, totals adds (after C R rule M c) cs ds)
-
-  -- moves bring nothing
-  none-brought : (test : ℕ → Bool) (M : Lent) (vs : List Move) → total C R rule (brings C R rule test) M (movings vs) ≡ 0
-  unfolding total
-  none-brought test M [] = refl
-  none-brought test M (v ∷ vs) = omega (arith, none-brought test (after C R rule M (moving v)) vs)
 
 -- ---- of a list that is read into lent memory, the packet of one header
 module _ (bs w : List ℕ) (rs : List Record) (z : bad-read bs (length w) (length rs) ≡ 0) (before : List Header) (h : Header) (later : List Header)
@@ -93,7 +80,7 @@ module _ (bs w : List ℕ) (rs : List Record) (z : bad-read bs (length w) (lengt
   onward : (hs : List Header) → run C R rule then (offerings C hs) ≡ now C R rule count (offerings C (before ++ (h ∷ hs)))
   unfolding run
   onward hs =
-      sym (runs C R rule count size (empty C R count) (offerings C before) (offering-of C h ∷ offerings C hs))
+      sym (run-append C R rule (empty C R count) (offerings C before) (offering-of C h ∷ offerings C hs))
       ∙ ap (run C R rule (empty C R count)) (sym (offerings-both C before (h ∷ hs)))
 
   to-all : run C R rule then (offerings C later) ≡ M
@@ -136,16 +123,16 @@ module _ (bs w : List ℕ) (rs : List Record) (z : bad-read bs (length w) (lengt
 
     none-given : bringings i then cs ≡ 0
     none-given =
-        let parts = totals C R rule (brings C R rule (eqb i)) then (offerings C later) (movings vs) in
+        let parts = total-append C R rule (brings C R rule (eqb i)) then (offerings C later) (movings vs) in
         omega (arith, parts, others, none-brought C R rule (eqb i) (run C R rule then (offerings C later)) vs)
 
     same-moves : makings i then cs ≡ its
     same-moves =
-        let parts = totals C R rule (makes C R rule (eqb i)) then (offerings C later) (movings vs) in
+        let parts = total-append C R rule (makes C R rule (eqb i)) then (offerings C later) (movings vs) in
         omega (arith, parts, none-made C R rule count size (eqb i) then later, ap (λ m. makings i m (movings vs)) to-all)
 
     same-end : run C R rule then cs ≡ run C R rule M (movings vs)
-    same-end = runs C R rule count size then (offerings C later) (movings vs) ∙ ap (λ m. run C R rule m (movings vs)) to-all
+    same-end = run-append C R rule then (offerings C later) (movings vs) ∙ ap (λ m. run C R rule m (movings vs)) to-all
 
     pub its-own : Owing i (run C R rule M (movings vs)) its
     its-own =

@@ -21,6 +21,7 @@ mod Meshes
 mod Reading
 mod Ranging
 -- calls
+pub mod Lists
 pub mod Answers
 mod Accounts
 pub mod Drained

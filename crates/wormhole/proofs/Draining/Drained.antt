@@ -20,6 +20,7 @@ use Rattle.wormhole.proofs.Draining.Picks.{picked}
 use Rattle.wormhole.proofs.Draining.Network.{Network}
 use Rattle.wormhole.proofs.Draining.Emptying.{at-replicate, invariant-empty, none-left, left-none, some-live, all-zero, joined-zeros, sections-zeros}
 use Rattle.wormhole.proofs.Draining.Meshes.{real}
+use Rattle.wormhole.proofs.Draining.Lists.{none-brought}
 use Rattle.wormhole.proofs.Draining.Answers as answers
 use Rattle.wormhole.proofs.Draining.Accounts.{unused-of, Good, owed, called, ranged, some-move}
 
@@ -42,15 +43,9 @@ module _ (C R rule count : ℕ) where
       let q = runs (after C R rule m c) (p .0) cs in
       (q .0, λ test. omega (arith, p .1 test, q .1 test))
 
-  -- moves bring nothing
-  none-brought : (m : Lent) (vs : List Move) → total C R rule (brings C R rule any) m (movings vs) ≡ 0
-  unfolding total
-  none-brought m [] = refl
-  none-brought m (v ∷ vs) = omega (arith, none-brought (after C R rule m (moving v)) vs)
-
   runs-moves : (m : Lent) → Good C R rule count m → (vs : List Move)
       → accepted C R rule m vs + owed C R rule any (run C R rule m (movings vs)) ≡ owed C R rule any m
-  runs-moves m G vs = omega (arith, runs m G (movings vs) .1 any, none-brought m vs)
+  runs-moves m G vs = omega (arith, runs m G (movings vs) .1 any, none-brought C R rule any m vs)
 
   -- ---- the empty memory
   good-empty : Good C R rule count (empty C R count)

@@ -98,8 +98,7 @@ loop-again c =
     let l = c .before .before .before .before .before .before .before .before .loop in
     let m = c .before .before .before .before .before .before .before .before .before .before .before .before .before .before .lead-of .result in
     let s = c .before .before .before .before .sweep in
-    let S = tally (l .words) (l .all) in
-    (
+    let S = tally (l .words) (l .all) in (
       search needs,
       (
         reached-sweep (m .columns) (m .rows) (m .rule) S (l .inv .1 .0) (s .last .0) (s .result) (s .ensures),
