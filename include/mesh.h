@@ -1,6 +1,7 @@
 /* The proved calls of the mesh router, for C. docs/SCOPE.md says what each does;
- * the contracts in crates/ say it exactly. Link target/staticlib/libroute.a for routes and
- * numberings, libwormhole.a for the wormhole machine, or both. */
+ * the contracts in crates/ say it exactly. Of target/staticlib link libroute.a for routes and
+ * numberings, libwormhole.a for the wormhole machine, libtraffic.a for lists, libreport.a for the
+ * sheet, or several: each has its own calls alone and needs no other. */
 #ifndef MESH_H
 #define MESH_H
 
@@ -33,8 +34,9 @@ enum {
     MESH_BAD_SIZE = 7,    /* lent memory of a wrong size */
     MESH_NOT_NOW = 8,     /* the move is not allowed now */
     MESH_BAD_MEMORY = 9,  /* memory out of range */
-    MESH_FULL = 10,       /* no empty record */
+    MESH_FULL = 10,       /* too few empty records */
     MESH_NO_PATH = 11,    /* no legal shortest path */
+    MESH_BAD_LIST = 12,   /* a list of a wrong length, or with spare bits set */
     MESH_BAD_MOVE = 13,   /* no such record, kind, direction or channel */
     MESH_NOT_RISING = 14  /* a numbering does not rise */
 };
@@ -111,5 +113,49 @@ enum { MESH_LEAD = 0, MESH_FOLLOW = 1, MESH_FEED = 2, MESH_EAT = 3 };
 uint8_t mesh_move(uint8_t columns, uint8_t rows, uint8_t rule, uint16_t *words, size_t length,
                   Record *records, size_t count, uint8_t record, uint8_t kind, uint16_t channel,
                   uint8_t direction);
+
+/* A traffic list has 2 bytes, then 3 for each of 0 to 64 packets. In bits, most significant first:
+ *   columns - 1 (4), rows - 1 (4), rule (3), zero (5)
+ *   a packet: source column (4) and row (4), destination column (4) and row (4), flits - 1 (8)
+ */
+enum { MESH_LIST_BYTES = 194 }; /* of the longest */
+
+typedef struct {
+    uint8_t refusal;
+    uint8_t columns; /* these are 0 with a refusal */
+    uint8_t rows;
+    uint8_t rule;
+    uint8_t packets;
+} ListRead;
+
+/* Makes the mesh empty, whatever the memory has, and offers it the list's packets in order. With a
+ * refusal words and records stay as they were. */
+ListRead mesh_read(const uint8_t *list, size_t length, uint16_t *words, size_t word_count,
+                   Record *records, size_t record_count);
+
+typedef struct {
+    uint8_t refusal;
+    uint16_t length; /* how many bytes were written; 0 with a refusal */
+} Written;
+
+/* Writes the list of the live records, in their order, at the start of `out`, which has
+ * MESH_LIST_BYTES or more; its later bytes stay, and with a refusal all do. */
+Written mesh_write(uint8_t columns, uint8_t rows, uint8_t rule, const uint16_t *words,
+                   size_t word_count, const Record *records, size_t record_count, uint8_t *out,
+                   size_t size);
+
+/* A sheet tells in lines of text what becomes of a list: the heading `packet hops moves`, for each
+ * packet its place in the list, its distance and the accepted moves of its flits, then `total` and
+ * their sum; or, of a list that is refused, one line `refused` and the number; or one line
+ * `stalled`, which no list calls for. */
+enum { MESH_REPORT_BYTES = 1024 };
+
+/* Reads a list, moves its packets until the mesh is empty, and writes the sheet at the start of
+ * `out`, which has MESH_REPORT_BYTES or more; its later bytes stay. It works on the first
+ * 12 * columns * rows of the words, which are then 0; the others stay, and all do if the list is
+ * refused. The call itself is refused by MESH_BAD_SIZE alone, if `out` is too short; nothing is then
+ * written. */
+Written mesh_report(const uint8_t *list, size_t length, uint16_t *words, size_t word_count,
+                    uint8_t *out, size_t size);
 
 #endif

@@ -5,7 +5,7 @@
 #include "route.h"
 #include "rules.h"
 
-enum { CHANNELS = WAYS * SIDE_MAX * SIDE_MAX, SECTIONS = 3, FLITS_MAX = 200 };
+enum { CHANNELS = WAYS * SIDE_MAX * SIDE_MAX, SECTIONS = 3 };
 enum { LEAD, FOLLOW, FEED, EAT, KINDS };
 
 /* In the place of a channel or of a packet: there is none. */
@@ -105,21 +105,22 @@ static bool records_in_range(const struct second_memory *lent)
     return true;
 }
 
-static bool sizes_right(const struct second_memory *lent)
+bool second_sizes_right(unsigned columns, unsigned rows, struct second_memory lent)
 {
-    return lent->length == SECTIONS * channel_count(&mesh) && lent->count >= 1 &&
-           lent->count <= SECOND_RECORDS;
+    return lent.length == SECTIONS * WAYS * columns * rows && lent.count >= 1 &&
+           lent.count <= SECOND_RECORDS;
 }
 
-/* What an offer and a move have in common: refusals 1, 2, 7 and 9. */
-static unsigned refusal_of_memory(const struct second_memory *lent)
+unsigned second_refusal_of_memory(unsigned columns, unsigned rows, unsigned rule,
+                                  struct second_memory lent)
 {
+    mesh = (struct mesh){columns, rows, rule};
     unsigned refusal = refusal_of_mesh(&mesh);
     if (refusal != OK)
         return refusal;
-    if (!sizes_right(lent))
+    if (!second_sizes_right(columns, rows, lent))
         return BAD_SIZE;
-    return words_in_range(lent) && records_in_range(lent) ? OK : BAD_MEMORY;
+    return words_in_range(&lent) && records_in_range(&lent) ? OK : BAD_MEMORY;
 }
 
 static struct packet packet_of(const struct second_record *record)
@@ -314,8 +315,7 @@ unsigned second_move(unsigned columns, unsigned rows, unsigned rule, struct seco
                      unsigned record, unsigned kind, unsigned channel, unsigned direction)
 {
     struct move move = {record, kind, channel, direction};
-    mesh = (struct mesh){columns, rows, rule};
-    unsigned refusal = refusal_of_memory(&lent);
+    unsigned refusal = second_refusal_of_memory(columns, rows, rule, lent);
     if (refusal != OK)
         return refusal;
     if (!move_exists(&move, lent.count))
@@ -325,6 +325,37 @@ unsigned second_move(unsigned columns, unsigned rows, unsigned rule, struct seco
         return NOT_NOW;
     write_memory(&lent);
     return OK;
+}
+
+/* Tries each move of a packet once, from its tail on; returns how many were made. */
+static unsigned long move_packet(unsigned record)
+{
+    unsigned long made = make(&(struct move){.record = record, .kind = FEED});
+    int next;
+    for (int at = packets[record].rear; at != NONE; at = next) {
+        next = channels[at].next; /* the channel may be given up */
+        made += make(&(struct move){record, FOLLOW, (unsigned)at, 0});
+    }
+    for (unsigned direction = 0; direction < WAYS; direction++)
+        made += make(&(struct move){record, LEAD, 0, direction});
+    return made + make(&(struct move){.record = record, .kind = EAT});
+}
+
+void second_drain(unsigned columns, unsigned rows, unsigned rule, struct second_memory lent,
+                  unsigned long moves[SECOND_RECORDS])
+{
+    unsigned long made;
+    mesh = (struct mesh){columns, rows, rule};
+    read_memory(&lent);
+    do {
+        made = 0;
+        for (unsigned record = (unsigned)lent.count; record-- > 0;) {
+            unsigned long by_record = move_packet(record);
+            moves[record] += by_record;
+            made += by_record;
+        }
+    } while (made != 0);
+    write_memory(&lent);
 }
 
 static unsigned refusal_of_packet(unsigned source, unsigned destination, unsigned flits)
@@ -354,8 +385,7 @@ struct second_offered second_offer(unsigned columns, unsigned rows, unsigned rul
                                    struct second_memory lent, unsigned source, unsigned destination,
                                    unsigned flits)
 {
-    mesh = (struct mesh){columns, rows, rule};
-    unsigned refusal = refusal_of_memory(&lent);
+    unsigned refusal = second_refusal_of_memory(columns, rows, rule, lent);
     if (refusal == OK)
         refusal = refusal_of_packet(source, destination, flits);
     if (refusal != OK)
@@ -381,7 +411,7 @@ unsigned second_reset(unsigned columns, unsigned rows, struct second_memory lent
     mesh = (struct mesh){columns, rows, XY};
     if (refusal_of_mesh(&mesh) != OK)
         return BAD_SIDE;
-    if (!sizes_right(&lent))
+    if (!second_sizes_right(columns, rows, lent))
         return BAD_SIZE;
     for (unsigned channel = 0; channel < channel_count(&mesh); channel++)
         channels[channel] = unused;

@@ -1,9 +1,10 @@
 /* The wormhole machine, worked on channels and packets that have a form of their own and are
  * written back to the lent memory only after an accepted call. Nothing here is shared with the
- * proved crates: tests/compare_machine.c sets the two side by side. */
+ * proved crates: tests/compare_machine.c sets the two side by side. list.h builds on it. */
 #ifndef SECOND_MACHINE_H
 #define SECOND_MACHINE_H
 
+#include <stdbool.h>
 #include <stddef.h>
 #include <stdint.h>
 
@@ -26,8 +27,8 @@ struct second_memory {
     size_t count;
 };
 
-/* The three calls take any arguments and any contents of memory, and write memory only if the
- * refusal is 0. They keep what they work on in one place, so one thread only. */
+/* The calls take any arguments and any contents of memory, and write memory only if the refusal
+ * is 0. They keep what they work on in one place, so one thread only. */
 
 /* Returns the refusal: 0, or 1, 7. */
 unsigned second_reset(unsigned columns, unsigned rows, struct second_memory lent);
@@ -44,5 +45,17 @@ struct second_offered second_offer(unsigned columns, unsigned rows, unsigned rul
 /* Returns the refusal: 0, or 1, 2, 7, 9, 13, 8. */
 unsigned second_move(unsigned columns, unsigned rows, unsigned rule, struct second_memory lent,
                      unsigned record, unsigned kind, unsigned channel, unsigned direction);
+
+/* What an offer and a move look at first: 0, or 1, 2, 7, 9. */
+unsigned second_refusal_of_memory(unsigned columns, unsigned rows, unsigned rule,
+                                  struct second_memory lent);
+
+/* Whether as many words and records are lent as a mesh of these sides, which are served, takes. */
+bool second_sizes_right(unsigned columns, unsigned rows, struct second_memory lent);
+
+/* Makes moves in an order of its own until none is allowed, and adds to each record's count the
+ * moves that it made. For memory that calls have left. */
+void second_drain(unsigned columns, unsigned rows, unsigned rule, struct second_memory lent,
+                  unsigned long moves[SECOND_RECORDS]);
 
 #endif

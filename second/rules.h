@@ -7,7 +7,7 @@
 
 enum { WEST, EAST, SOUTH, NORTH, WAYS, LOCAL = WAYS, ARRIVALS };
 enum { XY, WEST_FIRST, NORTH_LAST, NEGATIVE_FIRST, ODD_EVEN, RULES };
-enum { SIDE_MIN = 2, SIDE_MAX = 16 };
+enum { SIDE_MIN = 2, SIDE_MAX = 16, FLITS_MAX = 200 };
 
 /* The refusals that the second programs give. */
 enum {
@@ -23,6 +23,7 @@ enum {
     BAD_MEMORY = 9,
     FULL = 10,
     NO_PATH = 11,
+    BAD_LIST = 12,
     BAD_MOVE = 13,
     NOT_RISING = 14
 };

@@ -74,6 +74,11 @@ static inline struct choices rule_choices(unsigned rule)
     return (struct choices){{rule, 5, 6, 128, 255}, BAD_RULE};
 }
 
+static inline unsigned wrong_of(struct choices choices)
+{
+    return choices.values[1 + below(CHOICES - 1)];
+}
+
 /* How many ways there are to choose: each argument wrong alone, each two, and so on. */
 static inline unsigned combinations(unsigned arguments)
 {

@@ -5,19 +5,12 @@
  * have left; stray arguments. Says how many calls were made and how many differ; the exit status is
  * 0 if none does, every known answer was given, and every refusal and every kind of accepted move
  * that can occur did. With --all it makes about ten times as many calls. */
-#include "../include/mesh.h"
-#include "../second/machine.h"
-#include "compare.h"
+#include "compare_memory.h"
 
 #include <stdlib.h>
 #include <string.h>
 
-enum { CHANNELS = WAYS * SIDE_MAX * SIDE_MAX, SECTIONS = 3, WORD_VALUES = 65536 };
-enum { OWNER, HOLDS, NEXT }; /* the sections */
-enum { KINDS = 4, FLITS_MAX = 200 };
-
-/* The most words and records that are lent, and how many guards stand before and after them. */
-enum { LONGEST = SECTIONS * CHANNELS + WORD_VALUES, MOST = MESH_RECORDS + VALUES, GUARD = 16 };
+enum { KINDS = 4 };
 
 enum call { RESET, OFFER, MOVE, CALLS };
 
@@ -29,11 +22,7 @@ struct question {
         uint16_t source, destination;
         uint8_t flits;
     } packet; /* of an offer */
-    struct move {
-        uint8_t record, kind;
-        uint16_t channel;
-        uint8_t direction;
-    } move;
+    struct move move;
 };
 
 /* A call that has no record to answer gives 0 here. */
@@ -50,84 +39,6 @@ static enum { LEFT, DAMAGED, PUT_DOWN, ORIGINS } origin;
 
 /* How often the archive gave each refusal, and how often it accepted each kind of move. */
 static unsigned long refusals[CALLS][VALUES], accepted[ORIGINS][KINDS];
-
-/* The memory of each, between guards. */
-static struct {
-    uint16_t words[GUARD + LONGEST + GUARD];
-    Record records[GUARD + MOST + GUARD];
-} by_archive;
-
-static struct {
-    uint16_t words[GUARD + LONGEST + GUARD];
-    struct second_record records[GUARD + MOST + GUARD];
-} by_second;
-
-/* The contents, to be read. put_word and put_record write them, in both memories. */
-static const uint16_t *const words = by_second.words + GUARD;
-static const struct second_record *const records = by_second.records + GUARD;
-
-static Record archive_record(const struct second_record *r)
-{
-    return (Record){.live = (uint8_t)r->live,
-                    .source = (uint16_t)r->source,
-                    .destination = (uint16_t)r->destination,
-                    .flits = (uint8_t)r->flits,
-                    .waiting = (uint8_t)r->waiting,
-                    .eaten = (uint8_t)r->eaten,
-                    .rear = (uint16_t)r->rear,
-                    .front = (uint16_t)r->front};
-}
-
-static void put_word(size_t word, unsigned value)
-{
-    by_archive.words[GUARD + word] = by_second.words[GUARD + word] = (uint16_t)value;
-}
-
-static void put_record(size_t record, struct second_record value)
-{
-    by_archive.records[GUARD + record] = archive_record(&value);
-    by_second.records[GUARD + record] = value;
-}
-
-static struct second_record any_record(void)
-{
-    return (struct second_record){below(VALUES),      below(WORD_VALUES), below(WORD_VALUES),
-                                  below(VALUES),      below(VALUES),      below(VALUES),
-                                  below(WORD_VALUES), below(WORD_VALUES)};
-}
-
-/* Guards and all; put_word counts on from the guards before. */
-static void fill_with_garbage(size_t length, size_t count)
-{
-    for (size_t i = 0; i < GUARD + length + GUARD; i++)
-        put_word(i - GUARD, below(WORD_VALUES));
-    for (size_t i = 0; i < GUARD + count + GUARD; i++)
-        put_record(i - GUARD, any_record());
-}
-
-static bool same_record(const Record *a, const struct second_record *b)
-{
-    return a->live == b->live && a->source == b->source && a->destination == b->destination &&
-           a->flits == b->flits && a->waiting == b->waiting && a->eaten == b->eaten &&
-           a->rear == b->rear && a->front == b->front;
-}
-
-/* Both count from the first guard; as many as there are if nothing differs. */
-static size_t first_wrong_word(size_t count)
-{
-    size_t i = 0;
-    while (i < count && by_archive.words[i] == by_second.words[i])
-        i++;
-    return i;
-}
-
-static size_t first_wrong_record(size_t count)
-{
-    size_t i = 0;
-    while (i < count && same_record(&by_archive.records[i], &by_second.records[i]))
-        i++;
-    return i;
-}
 
 static void show(const char *what, const struct question *q)
 {
@@ -147,28 +58,6 @@ static void show_answers(struct answer archive, struct answer second)
 {
     printf(": archive %u record %u, second %u record %u", archive.refusal, archive.record,
            second.refusal, second.record);
-}
-
-static void show_record(const char *who, const struct second_record *r)
-{
-    printf(", %s %u %u %u %u %u %u %u %u", who, r->live, r->source, r->destination, r->flits,
-           r->waiting, r->eaten, r->rear, r->front);
-}
-
-static void show_wrong_word(size_t word)
-{
-    printf(", word %td archive %u second %u", (ptrdiff_t)word - GUARD, by_archive.words[word],
-           by_second.words[word]);
-}
-
-static void show_wrong_record(size_t record)
-{
-    const Record *a = &by_archive.records[record];
-    struct second_record archive = {a->live,    a->source, a->destination, a->flits,
-                                    a->waiting, a->eaten,  a->rear,        a->front};
-    printf(", record %td", (ptrdiff_t)record - GUARD);
-    show_record("archive", &archive);
-    show_record("second", &by_second.records[record]);
 }
 
 static struct answer ask_archive(const struct question *q)
@@ -210,39 +99,21 @@ static bool same(struct answer a, struct answer b)
     return a.refusal == b.refusal && a.record == b.record;
 }
 
-/* The mesh at hand, and a question about it with nothing wrong. Its memory is in use even when
- * less is lent. */
-static struct mesh mesh;
+/* A question about the mesh at hand with nothing wrong. */
 static struct question here;
 
-static size_t greater(size_t a, size_t b)
-{
-    return a > b ? a : b;
-}
-
-/* Compares all memory in use, guards too. After a difference the archive goes on with the memory
- * of the second program. */
 static void compare_both(const struct question *q, struct answer archive, struct answer second)
 {
-    size_t word_count = GUARD + greater(q->length, here.length) + GUARD;
-    size_t record_count = GUARD + greater(q->count, here.count) + GUARD;
-    size_t word = first_wrong_word(word_count);
-    size_t record = first_wrong_record(record_count);
-    if (same(archive, second) && word == word_count && record == record_count)
+    struct compared memory = compare_memory(q->length, q->count);
+    if (same(archive, second) && all_same(memory))
         return;
     if (tally.differ++ < SHOWN) {
         show("differ", q);
         show_answers(archive, second);
-        if (word < word_count)
-            show_wrong_word(word);
-        if (record < record_count)
-            show_wrong_record(record);
+        show_wrong(memory);
         printf("\n");
     }
-    for (; word < word_count; word++)
-        by_archive.words[word] = by_second.words[word];
-    for (; record < record_count; record++)
-        by_archive.records[record] = archive_record(&by_second.records[record]);
+    mend(memory);
 }
 
 /* Asks both and returns the archive's answer; `wanted` is the answer known beforehand, or null. */
@@ -303,36 +174,6 @@ static struct question move(unsigned record, unsigned kind, unsigned named)
     else if (kind == MESH_FOLLOW)
         q.move.channel = (uint16_t)named;
     return q;
-}
-
-static unsigned nodes(void)
-{
-    return mesh.columns * mesh.rows;
-}
-
-static unsigned channels(void)
-{
-    return channel_count(&mesh);
-}
-
-static bool exists(unsigned channel)
-{
-    return channel_exists(&mesh, channel);
-}
-
-static size_t word_at(unsigned section, unsigned channel)
-{
-    return section * channels() + channel;
-}
-
-static unsigned word(unsigned section, unsigned channel)
-{
-    return words[word_at(section, channel)];
-}
-
-static void put(unsigned section, unsigned channel, unsigned value)
-{
-    put_word(word_at(section, channel), value);
 }
 
 /* All of memory that is not zero: the words of some channels, which a 0 ends, for there never is a
@@ -403,6 +244,8 @@ static void turn_to(unsigned columns, unsigned rows, unsigned rule, size_t count
                              .rule = (uint8_t)rule,
                              .length = SECTIONS * channels(),
                              .count = count};
+    used.length = here.length;
+    used.count = here.count;
     fill_with_garbage(here.length, here.count);
     reset("reset of garbage");
 }
@@ -650,67 +493,6 @@ static void ask_known_cases(void)
         ask_known_case(&known_cases[i]);
 }
 
-/* Whether a value may stand in a section, by what the scope says of each. */
-static bool word_in_range(unsigned section, unsigned value)
-{
-    if (section == OWNER)
-        return value <= here.count;
-    if (section == HOLDS)
-        return value <= 1;
-    return value == 0 || exists(value - 1);
-}
-
-/* Records at the edges of the range, for every mesh. */
-static const struct edge {
-    struct second_record record;
-    bool in_range;
-} edges[] = {
-    {{0, 0, 0, 0, 0, 0, 0, 0}, true},      {{0, 1, 0, 0, 0, 0, 0, 0}, false},
-    {{0, 0, 1, 0, 0, 0, 0, 0}, false},     {{0, 0, 0, 1, 0, 0, 0, 0}, false},
-    {{0, 0, 0, 0, 1, 0, 0, 0}, false},     {{0, 0, 0, 0, 0, 1, 0, 0}, false},
-    {{0, 0, 0, 0, 0, 0, 2, 0}, false},     {{0, 0, 0, 0, 0, 0, 0, 2}, false},
-    {{0, 256, 0, 0, 0, 0, 0, 0}, false},   {{0, 0, 256, 0, 0, 0, 0, 0}, false},
-    {{0, 0, 0, 0, 0, 0, 256, 0}, false},   {{0, 0, 0, 0, 0, 0, 0, 256}, false},
-    {{0, 0, 3, 4, 2, 1, 2, 2}, false},     {{1, 0, 0, 0, 0, 0, 0, 0}, false},
-    {{1, 0, 0, 4, 2, 1, 0, 0}, false},     {{1, 3, 3, 4, 2, 1, 0, 0}, false},
-    {{1, 0, 3, 4, 2, 1, 0, 0}, true},      {{1, 0, 3, 4, 2, 1, 2, 2}, true},
-    {{2, 0, 3, 4, 2, 1, 2, 2}, false},     {{255, 0, 3, 4, 2, 1, 2, 2}, false},
-    {{2, 0, 0, 0, 0, 0, 0, 0}, false},     {{1, 0, 3, 0, 0, 0, 0, 0}, false},
-    {{1, 0, 3, 1, 0, 0, 0, 0}, true},      {{1, 0, 3, 1, 1, 1, 0, 0}, true},
-    {{1, 0, 3, 1, 2, 0, 0, 0}, false},     {{1, 0, 3, 1, 0, 2, 0, 0}, false},
-    {{1, 0, 3, 4, 4, 4, 0, 0}, true},      {{1, 0, 3, 4, 5, 0, 0, 0}, false},
-    {{1, 0, 3, 4, 0, 5, 0, 0}, false},     {{1, 0, 3, 4, 255, 0, 0, 0}, false},
-    {{1, 0, 3, 4, 0, 255, 0, 0}, false},   {{1, 0, 3, 200, 200, 200, 0, 0}, true},
-    {{1, 0, 3, 200, 201, 0, 0, 0}, false}, {{1, 0, 3, 200, 0, 201, 0, 0}, false},
-    {{1, 0, 3, 201, 0, 0, 0, 0}, false},   {{1, 0, 3, 255, 0, 0, 0, 0}, false},
-};
-enum { EDGES = sizeof edges / sizeof edges[0] };
-
-/* And those that go by the number of nodes. */
-enum { NODE_EDGES = 10 };
-
-static struct edge node_edge(unsigned number)
-{
-    unsigned all = nodes();
-    const struct {
-        unsigned source, destination;
-        bool in_range;
-    } ends[NODE_EDGES] = {
-        {all - 1, 0, true},  {0, all - 1, true},  {all, 0, false},       {0, all, false},
-        {65535, 0, false},   {0, 65535, false},   {all - 1, all, false}, {all, all, false},
-        {256 + 3, 1, false}, {1, 256 + 3, false},
-    };
-    struct second_record record = {1, ends[number].source, ends[number].destination, 4, 2, 1, 0, 0};
-    return (struct edge){record, ends[number].in_range};
-}
-
-/* And those with a certain word for rear or front. */
-static struct edge end_edge(unsigned rear, unsigned front)
-{
-    return (struct edge){{1, 0, 3, 4, 2, 1, rear, front},
-                         word_in_range(NEXT, rear) && word_in_range(NEXT, front)};
-}
-
 /* Calls with a fault that comes later in their order: so the answer is known if memory is in range,
  * too. If it is not, a call without fault as well. */
 static void ask_range(const char *what, bool in_range)
@@ -741,21 +523,6 @@ static void ask_record_edge(size_t record, struct edge edge)
     put_record(record, before);
 }
 
-/* Values from 0 to past all channels, and then some that end like small ones. */
-enum { FAR_VALUES = 5 };
-
-static unsigned edge_value(unsigned number)
-{
-    static const unsigned far_values[FAR_VALUES] = {256, 257, 258, 32768, 65535};
-    unsigned near = channels() + 3;
-    return number < near ? number : far_values[number - near];
-}
-
-static unsigned edge_values(void)
-{
-    return channels() + 3 + FAR_VALUES;
-}
-
 static void ask_every_word_edge(void)
 {
     for (unsigned section = 0; section < SECTIONS; section++)
@@ -776,36 +543,6 @@ static void ask_every_record_edge(size_t record)
     }
 }
 
-/* The first and last channel, or any other. */
-static unsigned edge_channel(void)
-{
-    const unsigned ends[] = {0, channels() - 1, below(channels()), below(channels())};
-    return ends[below(4)];
-}
-
-static unsigned edge_word(unsigned section)
-{
-    const unsigned owners[] = {0, 1, (unsigned)here.count, (unsigned)here.count + 1, 65535};
-    const unsigned held[] = {0, 1, 2, 256, 65535};
-    if (section == OWNER)
-        return owners[below(5)];
-    return section == HOLDS ? held[below(5)] : edge_value(below(edge_values()));
-}
-
-static struct edge any_edge(void)
-{
-    switch (below(4)) {
-    case 0:
-        return edges[below(EDGES)];
-    case 1:
-        return node_edge(below(NODE_EDGES));
-    case 2:
-        return end_edge(edge_value(below(edge_values())), 0);
-    default:
-        return end_edge(0, edge_value(below(edge_values())));
-    }
-}
-
 static void ask_some_edges(unsigned rounds)
 {
     for (unsigned i = 0; i < rounds; i++) {
@@ -815,27 +552,6 @@ static void ask_some_edges(unsigned rounds)
     }
 }
 
-static void spoil_word(void)
-{
-    unsigned section = below(SECTIONS), value = edge_word(section);
-    while (word_in_range(section, value))
-        value = edge_word(section);
-    put(section, edge_channel(), value);
-}
-
-static void spoil_record(void)
-{
-    struct edge edge = any_edge();
-    while (edge.in_range)
-        edge = any_edge();
-    put_record(below((unsigned)here.count), edge.record);
-}
-
-static unsigned wrong_of(struct choices choices)
-{
-    return choices.values[1 + below(CHOICES - 1)];
-}
-
 static void make_side_wrong(struct question *q)
 {
     unsigned which = 1 + below(3);
@@ -843,19 +559,6 @@ static void make_side_wrong(struct question *q)
         q->columns = (uint8_t)wrong_of(side_choices(mesh.columns));
     if (which & 2)
         q->rows = (uint8_t)wrong_of(side_choices(mesh.rows));
-}
-
-static const size_t wrong_counts[] = {0, 65, 66, 255, 256, 257, 256 + 64};
-enum { WRONG_COUNTS = sizeof wrong_counts / sizeof wrong_counts[0], WRONG_LENGTHS = 10 };
-
-/* The last two are the words of a smaller and of a greater mesh. */
-static size_t wrong_length(unsigned number)
-{
-    size_t right = here.length;
-    const size_t lengths[WRONG_LENGTHS] = {
-        0,         1,         right / 3,           right / 3 * 2,          right - 1,
-        right + 1, 2 * right, right + WORD_VALUES, right - 12 * mesh.rows, right + 12 * mesh.rows};
-    return lengths[number];
 }
 
 static void make_size_wrong(struct question *q)
@@ -1212,99 +915,9 @@ static void ask_runs(unsigned columns, unsigned rows, unsigned offers, unsigned 
     }
 }
 
-static unsigned some_channel(void)
-{
-    unsigned channel = below(channels());
-    while (!exists(channel))
-        channel = below(channels());
-    return channel;
-}
-
-/* Some channel that ends at a node: the one from the first neighbour from some direction on. */
-static unsigned some_channel_to(unsigned node)
-{
-    unsigned way = below(WAYS);
-    while (!on_mesh(&mesh, neighbour(place_of(&mesh, node), way)))
-        way = (way + 1) % WAYS;
-    return WAYS * node_at(&mesh, neighbour(place_of(&mesh, node), way)) + opposite(way);
-}
-
-/* Some channel that starts at the end of a channel, or anywhere if that does not exist. */
-static unsigned some_channel_after(unsigned channel)
-{
-    unsigned node = exists(channel) ? node_at(&mesh, end_of(&mesh, channel)) : below(nodes());
-    unsigned way = below(WAYS);
-    while (!exists(WAYS * node + way))
-        way = (way + 1) % WAYS;
-    return WAYS * node + way;
-}
-
-static unsigned some_next(unsigned channel)
-{
-    switch (below(5)) {
-    case 0:
-        return 0;
-    case 1:
-        return exists(channel) ? 1 + channel : 0;
-    case 2:
-        return 1 + some_channel();
-    default:
-        return 1 + some_channel_after(channel);
-    }
-}
-
-static unsigned some_front(unsigned destination)
-{
-    switch (below(4)) {
-    case 0:
-        return 0;
-    case 1:
-        return 1 + some_channel();
-    default:
-        return 1 + some_channel_to(destination);
-    }
-}
-
-static unsigned some_rear(unsigned front)
-{
-    switch (below(4)) {
-    case 0:
-        return 0;
-    case 1:
-        return 1 + some_channel();
-    default:
-        return front;
-    }
-}
-
-/* A live record in range, flits being few or many. */
-static struct second_record some_live_record(void)
-{
-    struct second_record r = {.live = 1, .source = below(nodes())};
-    r.destination = (r.source + 1 + below(nodes() - 1)) % nodes();
-    r.flits = 1 + below(below(4) ? 6 : FLITS_MAX);
-    r.waiting = below(2) ? 0 : below(r.flits + 1);
-    r.eaten = below(4) ? below(r.flits + 1) : r.flits - 1;
-    r.front = some_front(r.destination);
-    r.rear = some_rear(r.front);
-    return r;
-}
-
-static unsigned some_owner(void)
-{
-    return below(3) ? below((unsigned)here.count + 1) : 0;
-}
-
-/* All memory at random, in range. */
 static void randomise_memory(void)
 {
-    for (unsigned channel = 0; channel < channels(); channel++) {
-        put(OWNER, channel, some_owner());
-        put(HOLDS, channel, below(2));
-        put(NEXT, channel, some_next(channel));
-    }
-    for (size_t i = 0; i < here.count; i++)
-        put_record(i, below(4) ? some_live_record() : (struct second_record){0});
+    fill_in_range();
     origin = DAMAGED;
 }
 
@@ -1344,7 +957,7 @@ static void damage_record(void)
         r.front = some_front(r.destination);
         break;
     case 1:
-        r.rear = some_rear(r.front);
+        r.rear = some_end(r.front);
         break;
     case 2:
         r.waiting = below(2) ? 0 : below(r.flits + 1);

@@ -1,7 +1,10 @@
-# To be sourced by a test script, in sh or bash:   . tests/machine.sh || exit 1
-# Sees to a C compiler for x86-64 and to a way of running what it makes, installing on Debian the
-# packages that are missing, and sets
-#   CC_X86   the compiler; link with -static, then running needs no x86-64 libraries
+# To be sourced, in sh or bash. What is made here is for x86-64, on whatever machine:
+#   machine_prepare run       sees to a way of running programs
+#   machine_prepare compile   sees to a C compiler, too
+#   compile_x86 PROGRAM FILE..   compiles and links C
+#   run_x86 PROGRAM WORD..       runs a program
+# On Debian machine_prepare installs the packages that are missing; it sets
+#   CC_X86   the compiler
 #   RUN_X86  the word to put before a program to run it; empty on x86-64
 
 machine_failed() {
@@ -22,10 +25,15 @@ machine_has_library() {
     esac
 }
 
+# The packages that are missing for `run` or `compile`.
 machine_missing() {
+    if [ -n "$RUN_X86" ]; then
+        machine_has "$RUN_X86" || echo qemu-user
+        [ -e "$QEMU_LD_PREFIX/lib/libc.so.6" ] || echo libc6-amd64-cross
+    fi
+    [ "$1" = compile ] || return 0
     machine_has "$CC_X86" || echo "$machine_compiler"
     machine_has_library || echo "$machine_library"
-    [ -z "$RUN_X86" ] || machine_has "$RUN_X86" || echo qemu-user
 }
 
 machine_install() {
@@ -58,6 +66,8 @@ machine_prepare() {
     aarch64)
         CC_X86=x86_64-linux-gnu-gcc
         RUN_X86=qemu-x86_64
+        # Where the emulator finds the C library of a program that is not linked to it.
+        export QEMU_LD_PREFIX=/usr/x86_64-linux-gnu
         machine_compiler=gcc-x86-64-linux-gnu
         machine_library=libc6-dev-amd64-cross
         ;;
@@ -66,12 +76,19 @@ machine_prepare() {
         return 1
         ;;
     esac
-    machine_packages=$(machine_missing)
+    machine_packages=$(machine_missing "$1")
     [ -n "$machine_packages" ] || return 0
     # Unquoted: one word for each package.
     machine_install $machine_packages || return 1
-    machine_packages=$(machine_missing)
+    machine_packages=$(machine_missing "$1")
     [ -z "$machine_packages" ] || machine_failed "installed, yet not found: $machine_packages"
 }
 
-machine_prepare
+compile_x86() {
+    mkdir -p "$(dirname "$1")" &&
+        "$CC_X86" -std=c11 -O2 -Wall -Wextra -Wconversion -Werror -static -o "$@"
+}
+
+run_x86() {
+    ${RUN_X86:+"$RUN_X86"} "$@"
+}
