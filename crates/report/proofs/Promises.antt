@@ -1,7 +1,7 @@
 -- A list that was read pays what it owes: draining ends in the empty mesh, and what was counted is what the machine accepted, packet by packet.
 -- Assumes nothing.
 use Prim.Native.Nat.{ℕ, _+_, _*_, _<_}
-use mathlib.Core.Path.{_≡_, refl, sym, ap, _∙_}
+use mathlib.Core.Path.{_≡_, sym, ap, _∙_}
 use mathlib.Core.List.{List, _∷_, _++_}
 use native.Mathlib.Omega.{arith}
 use lib.Dec.{eqb}
@@ -16,7 +16,7 @@ use Rattle.traffic.proofs.Offering.{read-work, read-made}
 use Rattle.traffic.proofs.Owing.{its-all}
 use Rattle.report.specs.Sweeps.{Tally, sum, most-sweeps}
 use Rattle.report.specs.Calls.{drain}
-use Rattle.report.specs.Moves.{Paid, Payment}
+use Rattle.report.specs.Moves.{Payment}
 use Rattle.report.specs.Coded.{Reached}
 use Rattle.report.proofs.Settling.{source, sum-zeros, readable-so, reached}
 use Rattle.report.proofs.Tracing.{Trace}

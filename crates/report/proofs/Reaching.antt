@@ -1,15 +1,14 @@
 -- What a mesh that was reached has: memory of its sizes and in range, and few moves; and each try reaches on. By demand 3. Assumes nothing.
-use Prim.Native.Nat.{ℕ, zero, suc, _+_, _≤_, _<_}
+use Prim.Native.Nat.{ℕ, zero, suc, _+_, _≤_}
 use mathlib.Core.Path.{_≡_, refl, sym, _∙_, ap, subst}
-use mathlib.Core.Bool.{Bool, true, _&&_}
+use mathlib.Core.Bool.{true, _&&_}
 use mathlib.Core.List.{List, [], _∷_, _++_}
 use native.Mathlib.Omega.{arith}
-use lib.Dec.{T, leb}
+use lib.Dec.{T}
 use lib.Ieee.Bits.{is-true}
-use lib.ListN.{length, set, getD, length-set}
+use lib.ListN.{length, getD, length-set}
 use mir.Facts.{leb-yes}
 use borrow.Author.Tests.{le-leb}
-use Rattle.route.specs.declared.meshes.Mesh.{Mesh as Coded}
 use Rattle.route.specs.Mesh.{ruled}
 use Rattle.route.specs.Numbers.{channels, rule-of}
 use Rattle.route.specs.Coded.{meant}
@@ -17,8 +16,8 @@ use Rattle.wormhole.specs.declared.records.Record.{Record}
 use Rattle.wormhole.specs.Memory.{net, depth, sections, owner-of, none}
 use Rattle.wormhole.specs.Range.{every, at-most, names, words-fit, record-fits}
 use Rattle.wormhole.specs.Calls.{needed, bad-size, bad-memory, fits}
-use Rattle.wormhole.specs.Drains.{Lent, Move, Call, moving, any, brings, makes, total, after, run, now, work, made, empty, Drains}
-use Rattle.wormhole.specs.Coded.{Fitting, Memory, sides}
+use Rattle.wormhole.specs.Drains.{Lent, Move, moving, any, brings, makes, total, after, run, now, made, empty, Drains}
+use Rattle.wormhole.specs.Coded.{Fitting, Memory}
 use Rattle.wormhole.proofs.Every.{both, every-at}
 use Rattle.wormhole.proofs.AnyRule.{same-record}
 use Rattle.wormhole.proofs.Refusing.{none-first, none-if}
@@ -26,7 +25,7 @@ use Rattle.wormhole.proofs.ByKind.{record-served, memory-served}
 use Rattle.wormhole.proofs.Draining.Lists.{run-append, total-append}
 use Rattle.wormhole.proofs.Draining.Answers.{sizes-served}
 use Rattle.wormhole.proofs.Draining.Drained.{drains, lengths}
-use Rattle.report.specs.Sweeps.{Tally, sum, turn, tried, turns, drained}
+use Rattle.report.specs.Sweeps.{Tally, sum, tried, turns}
 use Rattle.report.specs.Coded.{Reached}
 use Rattle.report.proofs.Counting.{at-most-sum, sum-grown}
 

@@ -1,23 +1,21 @@
 -- Sweeps one after another: a list that was read is reached, and each sweep is one of `drained` fewer. Assumes nothing.
 use Prim.Native.Nat.{ℕ, zero, suc, _+_, _-_, _≤_, _<_}
-use mathlib.Core.Path.{_≡_, refl, sym, _∙_, ap, subst}
-use mathlib.Core.Bool.{Bool, true, false}
-use mathlib.Core.List.{List, [], _∷_}
+use mathlib.Core.Path.{_≡_, refl, sym, _∙_, ap}
+use mathlib.Core.List.{List}
 use native.Mathlib.Omega.{arith}
 use lib.Dec.{eqb}
 use lib.ListN.{length, replicate, length-replicate}
 use borrow.Author.Tests.{eq-eqb, ne-eqb}
 use Rattle.route.specs.Grid.{pick}
-use Rattle.wormhole.specs.declared.records.Record.{Record}
 use Rattle.wormhole.specs.Memory.{none}
-use Rattle.wormhole.specs.Drains.{Lent, now, made}
+use Rattle.wormhole.specs.Drains.{made}
 use Rattle.traffic.specs.declared.lists.Lead.{Lead}
 use Rattle.traffic.specs.Lists.{lead, after-lead, bad-headers, packets}
 use Rattle.traffic.specs.Calls.{bad-read, read, filled, offerings}
 use Rattle.traffic.proofs.Refusals.{listing, Readable, readable}
 use Rattle.traffic.proofs.Offering.{read-offers, read-most}
 use Rattle.report.specs.declared.turns.Counted.{Counted}
-use Rattle.report.specs.Sweeps.{Tally, sum, sweep, drained, most-sweeps}
+use Rattle.report.specs.Sweeps.{Tally, sum, sweep, drained}
 use Rattle.report.specs.Calls.{reading, drain}
 use Rattle.report.specs.Coded.{recs, counts, tally, Reached}
 use Rattle.report.proofs.Reaching.{reached-turns, long-words, few-made}

@@ -1,5 +1,5 @@
 -- A turn within a sweep: what it tries can be tried, on memory that was reached, and leaves the tally of one turn more. Assumes nothing.
-use Prim.Native.Nat.{ℕ, zero, suc, _+_, _-_, _*_, _/_, _%_, _^_, _≤_, _<_}
+use Prim.Native.Nat.{ℕ, suc, _+_, _-_, _*_, _/_, _%_, _^_, _≤_, _<_}
 use mathlib.Core.Path.{_≡_, refl, sym, _∙_, ap, subst}
 use mathlib.Core.Bool.{Bool, true, false}
 use mathlib.Core.List.{List}
@@ -8,13 +8,11 @@ use native.Mathlib.Nat.{mul-le-mul}
 use lib.Dec.{ltb}
 use lib.ListN.{length, set, getD}
 use borrow.Author.Tests.{ltb-true, ltb-false}
-use Rattle.route.specs.declared.meshes.Mesh.{Mesh as Coded}
 use Rattle.route.specs.Grid.{pick}
 use Rattle.route.specs.Mesh.{Mesh, ruled}
 use Rattle.route.specs.Numbers.{channels, rule-of}
 use Rattle.route.specs.Coded.{meant}
 use Rattle.route.proofs.Promises.{words-fit}
-use Rattle.wormhole.specs.declared.records.Record.{Record}
 use Rattle.wormhole.specs.Memory.{sections, owner-of}
 use Rattle.wormhole.specs.Drains.{Move}
 use Rattle.wormhole.specs.Coded.{Fitting, Memory, built, laid}

@@ -1,7 +1,7 @@
 -- What turns leave: those that are accepted are a list of moves, each made on the memory that the ones before it left, and each is counted once,
 -- for its packet. A try by its answer, then by induction on the turns and on the sweeps. Assumes nothing.
 use Prim.Native.Nat.{ℕ, zero, suc, _+_, _<_}
-use mathlib.Core.Path.{_≡_, refl, ap, _∙_}
+use mathlib.Core.Path.{_≡_, refl, ap}
 use mathlib.Core.Logic.{_≢_}
 use mathlib.Core.Bool.{Bool, true, false}
 use mathlib.Core.List.{List, [], _∷_, _++_}

@@ -1,24 +1,23 @@
 -- A turn as the code tries it on one packet is the move of the whole machine: by the cases of its being accepted. Assumes nothing.
-use Prim.Native.Nat.{ℕ, zero, suc, _+_, _-_, _*_, _/_, _%_, _≤_, _<_}
+use Prim.Native.Nat.{ℕ, suc, _+_, _-_, _<_}
 use mathlib.Core.Path.{_≡_, refl, sym, _∙_, ap, subst}
 use mathlib.Core.Bool.{Bool, true, false, not, _&&_}
 use mathlib.Core.List.{List}
 use native.Mathlib.Omega.{arith}
-use lib.Dec.{T, ltb, eqb}
+use lib.Dec.{T, eqb}
 use lib.ListN.{length, set, getD}
 use lib.Seq.{set-getD}
-use mir.Facts.{and-yes, yes-and, eqb-yes, yes-eqb, eqb-no, no-eqb}
-use borrow.Author.Tests.{eq-eqb, ne-eqb, not-true, not-false}
-use Rattle.route.specs.declared.meshes.Mesh.{Mesh as Coded}
+use mir.Facts.{and-yes, yes-and, eqb-yes, yes-eqb}
+use borrow.Author.Tests.{ne-eqb}
 use Rattle.route.specs.Grid.{pick}
 use Rattle.route.specs.Mesh.{Mesh, ruled}
 use Rattle.route.specs.Numbers.{channels, rule-of}
 use Rattle.route.specs.Coded.{meant}
 use Rattle.wormhole.specs.declared.records.Record.{Record}
-use Rattle.wormhole.specs.Memory.{Net, net, depth, Sections, sections, joined, none}
+use Rattle.wormhole.specs.Memory.{net, Sections, sections, joined, none}
 use Rattle.wormhole.specs.Steps.{known, may, act}
-use Rattle.wormhole.specs.Calls.{allowed, move}
-use Rattle.wormhole.specs.Drains.{Lent, moving, any, after, moves, makes}
+use Rattle.wormhole.specs.Calls.{move}
+use Rattle.wormhole.specs.Drains.{moving, any, moves, makes}
 use Rattle.wormhole.specs.Coded.{built, laid}
 use Rattle.wormhole.proofs.Sections.{rejoined}
 use Rattle.wormhole.proofs.Draining.Answers as answers

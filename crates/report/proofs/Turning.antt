@@ -1,21 +1,17 @@
 -- What the functions of one turn return: each by the tests before it. Assumes nothing.
-use Prim.Native.Nat.{ℕ, zero, suc, _+_, _-_, _*_, _/_, _%_, _≤_, _<_}
-use mathlib.Core.Path.{_≡_, refl, sym, _∙_, ap, subst}
+use Prim.Native.Nat.{ℕ, zero, suc, _+_, _-_, _/_, _%_, _≤_, _<_}
+use mathlib.Core.Path.{_≡_, refl, sym, _∙_}
 use mathlib.Core.Bool.{Bool, true, false, not, _&&_, and-false}
 use mathlib.Core.List.{List}
 use native.Mathlib.Omega.{arith}
-use lib.Dec.{T, ltb, eqb}
-use lib.ListN.{length}
-use borrow.Author.Tests.{eq-eqb, ne-eqb, not-true, not-false, lt-ltb, le-ltb}
-use Rattle.route.specs.declared.meshes.Mesh.{Mesh as Coded}
-use Rattle.route.specs.Grid.{pick}
-use Rattle.route.specs.Mesh.{Mesh}
+use lib.Dec.{eqb}
+use borrow.Author.Tests.{ne-eqb, not-true, not-false, lt-ltb, le-ltb}
 use Rattle.route.specs.Channels.{is-channel}
 use Rattle.route.specs.Numbers.{channels}
 use Rattle.route.specs.Coded.{meant}
 use Rattle.wormhole.specs.declared.records.Record.{Record}
 use Rattle.wormhole.specs.Memory.{Net, Sections, sections, owner-of}
-use Rattle.wormhole.specs.Steps.{Stepped, stepped, known, may, may-follow, can-follow, act}
+use Rattle.wormhole.specs.Steps.{stepped, known, may, may-follow, act}
 use Rattle.wormhole.specs.Calls.{allowed}
 use Rattle.wormhole.specs.Drains.{Move}
 use Rattle.wormhole.specs.Coded.{built, laid, sides}
@@ -23,8 +19,8 @@ use Rattle.wormhole.proofs.Every.{both}
 use Rattle.wormhole.proofs.AnyRule.{same-channels}
 use Rattle.report.specs.declared.turns.Counted.{Counted}
 use Rattle.report.specs.declared.turns.Turn.{Turn}
-use Rattle.report.specs.Sweeps.{own, owners, turn}
-use Rattle.report.specs.Coded.{move-of, accepted, Attempt, attempted}
+use Rattle.report.specs.Sweeps.{own, turn}
+use Rattle.report.specs.Coded.{accepted, attempted}
 
 -- ---- which move
 pub lead-turn : (t : ℕ) → t % 6 < 4 → record { packet = t / 6; kind = 0; channel = 0; direction = t % 6 } ≡ own t

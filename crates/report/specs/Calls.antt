@@ -5,10 +5,8 @@ use lib.Dec.{ltb}
 use lib.ListN.{length, take, drop, getD, replicate}
 use Rattle.route.specs.Grid.{pick}
 use Rattle.route.specs.Served.{unless}
-use Rattle.wormhole.specs.declared.records.Record.{Record}
 use Rattle.wormhole.specs.Memory.{none}
 use Rattle.wormhole.specs.Calls.{Left, needed}
-use Rattle.wormhole.specs.Drains.{Lent}
 use Rattle.traffic.specs.declared.pages.Written.{Written}
 use Rattle.traffic.specs.declared.reads.ListRead.{ListRead}
 use Rattle.traffic.specs.Lists.{lead, after-lead}

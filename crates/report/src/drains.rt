@@ -15,7 +15,7 @@ ghost use Prim.Native.Nat.{_≤_};
 ghost use lib.ListN.{length, replicate};
 ghost use Rattle.traffic.specs.Lists.{after-lead, bad-headers, packets};
 ghost use Rattle.traffic.specs.Calls.{bad-read, filled};
-ghost use Rattle.report.specs.Sweeps.{sum, idle, sweep, drained};
+ghost use Rattle.report.specs.Sweeps.{sum, idle, sweep};
 ghost use Rattle.report.specs.Calls.{drain};
 ghost use Rattle.report.specs.Coded.{recs, counts, tally, Reached};
 

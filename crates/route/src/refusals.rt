@@ -1,7 +1,6 @@
 // The numbers by which the calls refuse, and the refusals that come first in every call. 0 is
 // acceptance.
 ghost use mathlib.Core.Path.{_≡_};
-ghost use Prim.Native.Nat.{_≤_};
 ghost use Rattle.route.specs.Served.{off-side, bad-mesh, bad-list};
 
 // A side is outside 2 to 16.

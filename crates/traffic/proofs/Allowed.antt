@@ -1,27 +1,26 @@
 -- The packet of a header that is not refused can be offered, and owes few moves: by its places in the mesh. Assumes nothing.
 use Prim.Native.Nat.{ℕ, zero, suc, _+_, _*_, _/_, _%_, _≤_, _<_}
 use mathlib.Core.Path.{_≡_, refl, sym, ap, _∙_}
-use mathlib.Core.Bool.{not, _||_}
-use mathlib.Core.List.{List, [], _∷_, _++_}
+use mathlib.Core.Bool.{not}
+use mathlib.Core.List.{List, [], _∷_}
 use native.Mathlib.Nat.{mul-le-mul}
 use native.Mathlib.Omega.{arith}
 use lib.Arith.{digits-div, digits-mod}
-use lib.Dec.{T, leb, eqb}
+use lib.Dec.{leb, eqb}
 use lib.Ieee.Bits.{is-true}
 use lib.ListN.{length, replicate}
-use mir.Facts.{and-yes, yes-and, or-no, T-not, T-not-not, leb-yes, leb-no, eqb-yes, yes-eqb}
+use mir.Facts.{and-yes, yes-and, T-not, leb-yes, yes-eqb}
 use borrow.Author.Tests.{lt-leb, ne-eqb}
-use Rattle.route.specs.Grid.{pick, horiz, vert, coord, gap, dist}
+use Rattle.route.specs.Grid.{horiz, vert, coord, gap, dist}
 use Rattle.route.specs.Turns.{xy}
 use Rattle.route.specs.Mesh.{Mesh, ruled}
 use Rattle.route.specs.Numbers.{node, place-of}
-use Rattle.route.specs.Served.{unless, bad-mesh}
+use Rattle.route.specs.Served.{unless}
 use Rattle.route.specs.Paths.{same-place}
 use Rattle.route.proofs.Promises.{node-below, place-inside}
 use Rattle.wormhole.specs.declared.records.Record.{Record}
 use Rattle.wormhole.specs.Range.{flits-served}
-use Rattle.wormhole.specs.Calls.{left, bad-size, bad-packet}
-use Rattle.wormhole.proofs.Refusing.{none-first, none-if, none-unless, Sized, sized}
+use Rattle.wormhole.specs.Calls.{left, bad-packet}
 use Rattle.traffic.specs.declared.headers.Header.{Header}
 use Rattle.traffic.specs.Lists.{lead, after-lead, bad-headers, packets}
 use Rattle.traffic.specs.Calls.{bad-read, read-answer, filled, read, due, dues}

@@ -3,7 +3,7 @@
 use Prim.Native.Nat.{ℕ, suc, _+_, _*_, _≤_, _<_}
 use mathlib.Core.Path.{_≡_, refl, sym, ap, _∙_, subst}
 use mathlib.Core.Logic.{_↔_}
-use mathlib.Core.Bool.{Bool, false}
+use mathlib.Core.Bool.{false}
 use mathlib.Core.List.{List, [], _∷_, _++_}
 use native.Mathlib.Omega.{arith}
 use lib.Arith.{digits-div, digits-mod}
@@ -17,7 +17,7 @@ use Rattle.wormhole.specs.declared.offers.Offered.{Offered}
 use Rattle.wormhole.specs.declared.records.Record.{Record}
 use Rattle.wormhole.specs.Memory.{none}
 use Rattle.wormhole.specs.Calls.{needed, bad-size}
-use Rattle.wormhole.specs.Drains.{Lent, Call, Move, moving, movings, empty, after, run, brings, makes, total, now}
+use Rattle.wormhole.specs.Drains.{Lent, Call, Move, movings, empty, after, run, brings, makes, total, now}
 use Rattle.wormhole.proofs.Draining.Lists.{run-append, total-append, none-brought}
 use Rattle.traffic.specs.declared.headers.Header.{Header}
 use Rattle.traffic.specs.Lists.{lead, after-lead}

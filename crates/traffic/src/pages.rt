@@ -1,6 +1,6 @@
 // Bytes that are written one after another at the start of lent ones.
 ghost use mathlib.Core.Path.{_≡_};
-ghost use Rattle.traffic.specs.Coded.{page, put, puts};
+ghost use Rattle.traffic.specs.Coded.{page, put};
 
 // The answer of a call that writes bytes.
 #[repr(C)]

@@ -10,13 +10,6 @@ use Rattle.report.proofs.Reaching.{few-made}
 use Rattle.report.proofs.Settling.{two-bytes, good-packets, few-packets, begins, ends, reached-sweep, few-swept, long-swept, long-zero, settled, unsettled, run-out}
 use Rattle.report.proofs.drains.drain.Statement.{statement}
 use Rattle.report.proofs.drains.drain.Tie as tie
-use Rattle.report.proofs.drains.drain.Reads as reads
-use Rattle.report.proofs.drains.drain.Lts as lts
-use Rattle.report.proofs.drains.load.Reads as load-reads
-use Rattle.report.proofs.drains.sweep.Reads as sweep-reads
-use Rattle.report.proofs.drains.total_of.Reads as total-of-reads
-use Rattle.traffic.proofs.lead_of.Reads as lead-of-reads
-use Rattle.wormhole.proofs.zero.Reads as zero-reads
 
 abbrev Inv-loop : tie.InvT-loop
 Inv-loop list words₀ lead all₀ turns₀ words all turns =
@@ -28,31 +21,24 @@ Inv-loop list words₀ lead all₀ turns₀ words all turns =
 abbrev μ-loop : tie.MeasureT-loop
 μ-loop list words₀ lead all₀ turns₀ words all turns = 396801 - turns
 
--- src/drains.rt:104:9
 lead-of-requires : tie.Need-lead-of-requires Inv-loop μ-loop
 lead-of-requires c κs = search two-bytes
 
--- src/drains.rt:105:5
 zero-requires : tie.Need-zero-requires Inv-loop μ-loop
 zero-requires c κs = tt
 
--- src/drains.rt:106:9
 load-requires : tie.Need-load-requires Inv-loop μ-loop
 load-requires c κs = (search two-bytes, (search good-packets, search few-packets))
 
--- src/drains.rt:108:5
 loop-holds : tie.Need-loop-holds Inv-loop μ-loop
 loop-holds c = (omega arith, (search begins, (refl, refl)))
 
--- src/drains.rt:109:13
 total-of-requires : tie.Need-total-of-requires Inv-loop μ-loop
 total-of-requires c κs = search few-made
 
--- src/drains.rt:110:13
 sweep-requires : tie.Need-sweep-requires Inv-loop μ-loop
 sweep-requires c κs = search needs
 
--- src/drains.rt:111:12
 total-of-requires-2 : tie.Need-total-of-requires-2 Inv-loop μ-loop
 total-of-requires-2 c κs =
     let l = c .before .before .before .before .before .before .loop in
@@ -60,7 +46,6 @@ total-of-requires-2 c κs =
     let s = c .before .before .sweep in
     few-swept (m .columns) (m .rows) (m .rule) (tally (l .words) (l .all)) (l .inv .1 .0) (s .last .0) (s .result) (s .ensures)
 
--- src/drains.rt:112:13
 same-length : tie.Need-same-length Inv-loop μ-loop
 same-length c =
     let x = c .before .before .before .before .before .before .before .before .before .before .before .before .before .before .before .before .before in
@@ -70,7 +55,6 @@ same-length c =
     let s = c .before .before .before .before .sweep in
     long-swept (m .columns) (m .rows) (m .rule) (tally (l .words) (l .all)) (l .inv .1 .0) (s .last .0) (s .result) (s .ensures) ∙ (l .inv .1 .1 .0 ∙ long-zero (z .last .0) (x .args .words .now) (z .ensures))
 
--- src/drains.rt:112:13
 returns : tie.Need-returns Inv-loop μ-loop
 returns c =
     let x = c .before .before .before .before .before .before .before .before .before .before .before .before .before .before .before .before .before in
@@ -84,15 +68,12 @@ returns c =
     ends (x .args .list .now) (x .args .words .now) (x .pre) (y .result) (y .ensures) (z .last .0) (p .result) (z .ensures) (p .ensures .0) (p .ensures .1)
     (settled (m .columns) (m .rows) (m .rule) S (l .inv .1 .0) (s .last .0) (s .result) (s .ensures) (l .turns) (omega arith) (c .before .before .before .before .before .before .total-of .ensures) (c .before .total-of2 .ensures) (omega arith) ∙ l .inv .1 .1 .1)
 
--- src/drains.rt:115:9
 add-turns : tie.Need-add-turns Inv-loop μ-loop
 add-turns c = search needs
 
--- src/drains.rt:108:5
 loop-less : tie.Need-loop-less Inv-loop μ-loop
 loop-less c = search needs
 
--- src/drains.rt:108:5
 loop-again : tie.Need-loop-again Inv-loop μ-loop
 loop-again c =
     let l = c .before .before .before .before .before .before .before .before .loop in
@@ -109,11 +90,9 @@ loop-again c =
       ),
     )
 
--- src/drains.rt:100:1
 same-length-2 : tie.Need-same-length-2 Inv-loop μ-loop
 same-length-2 c = c .before .loop .inv .1 .1 .0 ∙ long-zero (c .before .before .before .before .before .zero .last .0) (c .before .before .before .before .before .before .before .before .before .before .args .words .now) (c .before .before .before .before .before .zero .ensures)
 
--- src/drains.rt:100:1
 returns-2 : tie.Need-returns-2 Inv-loop μ-loop
 returns-2 c =
     let x = c .before .before .before .before .before .before .before .before .before .before in

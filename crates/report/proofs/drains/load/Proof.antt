@@ -11,10 +11,6 @@ use Rattle.report.specs.Coded.{recs, counts}
 use Rattle.report.proofs.Loading.{none-loaded, none-counted, one-loaded, still-none, all-loaded}
 use Rattle.report.proofs.drains.load.Statement.{statement}
 use Rattle.report.proofs.drains.load.Tie as tie
-use Rattle.report.proofs.drains.load.Reads as reads
-use Rattle.report.proofs.drains.load.Lts as lts
-use Rattle.traffic.proofs.packet_at.Reads as packet-at-reads
-use Rattle.wormhole.proofs.none.Reads as none-reads
 
 abbrev Inv-loop : tie.InvT-loop
 Inv-loop list columns rows all₀ i₀ all i =
@@ -23,39 +19,30 @@ Inv-loop list columns rows all₀ i₀ all i =
 abbrev μ-loop : tie.MeasureT-loop
 μ-loop list columns rows all₀ i₀ all i = 64 - i
 
--- src/drains.rt:34:17
 none-requires : tie.Need-none-requires Inv-loop μ-loop
 none-requires c κs = tt
 
--- src/drains.rt:39:5
 loop-holds : tie.Need-loop-holds Inv-loop μ-loop
 loop-holds c = (omega arith, (search none-loaded, search none-counted))
 
--- src/drains.rt:41:21
 packet-at-requires : tie.Need-packet-at-requires Inv-loop μ-loop
 packet-at-requires c κs = search needs
 
--- src/drains.rt:40:9
 mul-all : tie.Need-mul-all Inv-loop μ-loop
 mul-all c = search needs
 
--- src/drains.rt:40:9
 array-set-from-all : tie.Need-array-set-from-all Inv-loop μ-loop
 array-set-from-all c = search needs
 
--- src/drains.rt:44:9
 add-i : tie.Need-add-i Inv-loop μ-loop
 add-i c = search needs
 
--- src/drains.rt:39:5
 loop-less : tie.Need-loop-less Inv-loop μ-loop
 loop-less c = search needs
 
--- src/drains.rt:39:5
 loop-again : tie.Need-loop-again Inv-loop μ-loop
 loop-again c = (search needs, (search one-loaded, search still-none))
 
--- src/drains.rt:26:1
 returns : tie.Need-returns Inv-loop μ-loop
 returns c = (search all-loaded, search needs)
 

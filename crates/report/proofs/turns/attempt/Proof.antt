@@ -8,24 +8,16 @@ use Rattle.wormhole.specs.Coded.{built, laid}
 use Rattle.wormhole.proofs.Every.{both}
 use Rattle.report.proofs.turns.attempt.Statement.{statement}
 use Rattle.report.proofs.turns.attempt.Tie as tie
-use Rattle.report.proofs.turns.attempt.Reads as reads
-use Rattle.report.proofs.turns.attempt.Lts as lts
-use Rattle.report.proofs.turns.is_accepted.Reads as is-accepted-reads
-use Rattle.wormhole.proofs.act.Reads as act-reads
 
--- src/turns.rt:133:9
 is-accepted-requires : tie.Need-is-accepted-requires
 is-accepted-requires c κs = search needs
 
--- src/turns.rt:134:9
 same-length : tie.Need-same-length
 same-length c = search needs
 
--- src/turns.rt:134:9
 returns : tie.Need-returns
 returns c = search not-tried
 
--- src/turns.rt:136:9
 act-requires : tie.Need-act-requires
 act-requires c κs =
     let a = c .before .before .before .before .before .args in
@@ -37,15 +29,12 @@ act-requires c κs =
     let both-so = both (eqb (a .c .packet .live) 1) (may N s (a .v .packet) (a .c .packet) (a .v .kind) (a .v .channel) (a .v .direction)) ok in
     (record { fitting = search needs; live = eqb-true (a .c .packet .live) 1 (both-so .0) }, (search needs, (is-known N s (a .v) (a .c) e h, both-so .1)))
 
--- src/turns.rt:147:16
 add-t12 : tie.Need-add-t12
 add-t12 c = search needs
 
--- src/turns.rt:125:1
 same-length-2 : tie.Need-same-length-2
 same-length-2 c = search needs
 
--- src/turns.rt:125:1
 returns-2 : tie.Need-returns-2
 returns-2 c = search made-counted
 

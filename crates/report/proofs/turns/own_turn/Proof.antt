@@ -4,26 +4,19 @@ use native.Mathlib.Omega.{arith}
 use borrow.Author.Needs.{needs}
 use Rattle.report.proofs.turns.own_turn.Statement.{statement}
 use Rattle.report.proofs.turns.own_turn.Tie as tie
-use Rattle.report.proofs.turns.own_turn.Reads as reads
-use Rattle.report.proofs.turns.own_turn.Lts as lts
 
--- src/turns.rt:45:13
 cast-j : tie.Need-cast-j
 cast-j c = search needs
 
--- src/turns.rt:46:18
 cast-packet : tie.Need-cast-packet
 cast-packet c = search needs
 
--- src/turns.rt:48:9
 returns : tie.Need-returns
 returns c = lead-turn (c .before .args .t) (omega arith)
 
--- src/turns.rt:57:15
 sub-t6 : tie.Need-sub-t6
 sub-t6 c = search needs
 
--- src/turns.rt:41:1
 returns-2 : tie.Need-returns-2
 returns-2 c = other-turn (c .before .args .t) (omega arith)
 

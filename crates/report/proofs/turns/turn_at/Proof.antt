@@ -3,45 +3,31 @@ use Rattle.report.proofs.Turning.{own-first, owner-then}
 use borrow.Author.Needs.{needs}
 use Rattle.report.proofs.turns.turn_at.Statement.{statement}
 use Rattle.report.proofs.turns.turn_at.Tie as tie
-use Rattle.report.proofs.turns.turn_at.Reads as reads
-use Rattle.report.proofs.turns.turn_at.Lts as lts
-use Rattle.report.proofs.turns.holder.Reads as holder-reads
-use Rattle.report.proofs.turns.own_turn.Reads as own-turn-reads
-use Rattle.wormhole.proofs.owner_of.Reads as owner-of-reads
 
--- src/turns.rt:82:12
 mul-if1 : tie.Need-mul-if1
 mul-if1 c = search needs
 
--- src/turns.rt:83:9
 own-turn-requires : tie.Need-own-turn-requires
 own-turn-requires c κs = search needs
 
--- src/turns.rt:83:9
 returns : tie.Need-returns
 returns c = search own-first
 
--- src/turns.rt:85:24
 mul-channel : tie.Need-mul-channel
 mul-channel c = search needs
 
--- src/turns.rt:85:20
 sub-channel : tie.Need-sub-channel
 sub-channel c = search needs
 
--- src/turns.rt:85:19
 cast-channel : tie.Need-cast-channel
 cast-channel c = search needs
 
--- src/turns.rt:87:24
 owner-of-requires : tie.Need-owner-of-requires
 owner-of-requires c κs = search needs
 
--- src/turns.rt:87:17
 holder-requires : tie.Need-holder-requires
 holder-requires c κs = search needs
 
--- src/turns.rt:75:1
 returns-2 : tie.Need-returns-2
 returns-2 c = search owner-then
 
