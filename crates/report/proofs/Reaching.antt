@@ -9,6 +9,7 @@ use lib.Ieee.Bits.{is-true}
 use lib.ListN.{length, getD, length-set}
 use mir.Facts.{leb-yes}
 use borrow.Author.Tests.{le-leb}
+use Rattle.route.specs.declared.meshes.Mesh.{Mesh as Coded}
 use Rattle.route.specs.Mesh.{ruled}
 use Rattle.route.specs.Numbers.{channels, rule-of}
 use Rattle.route.specs.Coded.{meant}

@@ -9,6 +9,7 @@ use lib.ListN.{length, set, getD}
 use lib.Seq.{set-getD}
 use mir.Facts.{and-yes, yes-and, eqb-yes, yes-eqb}
 use borrow.Author.Tests.{ne-eqb}
+use Rattle.route.specs.declared.meshes.Mesh.{Mesh as Coded}
 use Rattle.route.specs.Grid.{pick}
 use Rattle.route.specs.Mesh.{Mesh, ruled}
 use Rattle.route.specs.Numbers.{channels, rule-of}

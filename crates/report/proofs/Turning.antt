@@ -6,6 +6,7 @@ use mathlib.Core.List.{List}
 use native.Mathlib.Omega.{arith}
 use lib.Dec.{eqb}
 use borrow.Author.Tests.{ne-eqb, not-true, not-false, lt-ltb, le-ltb}
+use Rattle.route.specs.declared.meshes.Mesh.{Mesh as Coded}
 use Rattle.route.specs.Channels.{is-channel}
 use Rattle.route.specs.Numbers.{channels}
 use Rattle.route.specs.Coded.{meant}

@@ -9,6 +9,7 @@ use native.Mathlib.Omega.{arith}
 use lib.ListN.{length, getD, set, drop, drop-of-length-le, length-append}
 use lib.Seq.{drop-cons, set-at, append-snoc}
 use Rattle.route.specs.declared.formulas.Frame.{Frame}
+use Rattle.route.specs.declared.meshes.Mesh.{Mesh as Coded}
 use Rattle.route.specs.declared.places.Place.{Place}
 use Rattle.route.specs.Grid.{Dir}
 use Rattle.route.specs.Turns.{Rule}

@@ -5,6 +5,7 @@ use mathlib.Core.List.{List}
 use native.Mathlib.Omega.{arith}
 use lib.ListN.{length}
 use Rattle.route.specs.declared.checks.Checked.{Checked}
+use Rattle.route.specs.declared.meshes.Mesh.{Mesh as Coded}
 use Rattle.route.specs.Mesh.{Mesh, ruled}
 use Rattle.route.specs.Numbers.{rule-of, channels}
 use Rattle.route.specs.Served.{bad-list}

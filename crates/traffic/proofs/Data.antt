@@ -2,6 +2,8 @@
 use mir.Syntax.{w8, w64}
 use denote.Struct.Laws.{owed}
 use Rattle.wormhole.proofs.Walks.Kinds.{Kind, Fits, num, struct}
+use Rattle.traffic.specs.declared.reads.ListRead.{ListRead as Listed}
+use Rattle.traffic.specs.declared.writes.Begun.{Begun as Start}
 use Rattle.traffic.proofs.reads.ListRead as ListRead
 use Rattle.traffic.proofs.reads.ListRead.Laws as ListRead-laws
 use Rattle.traffic.proofs.writes.Begun as Begun

@@ -5,6 +5,10 @@ use mathlib.Core.List.{List}
 use native.Mathlib.Omega.{arith}
 use mir.Syntax.{w8, w64}
 use lib.ListN.{length, length-set}
+use Rattle.wormhole.specs.declared.moves.Moved.{Moved as Move}
+use Rattle.wormhole.specs.declared.offers.Placed.{Placed as Place}
+use Rattle.wormhole.specs.declared.records.Record.{Record as Packet}
+use Rattle.wormhole.specs.declared.resets.Wiped.{Wiped as Wipe}
 use Rattle.wormhole.specs.Memory.{none}
 use Rattle.wormhole.specs.Coded.{cleared}
 use Rattle.wormhole.proofs.Walks.Kinds.{Kind, Fits, num, struct}

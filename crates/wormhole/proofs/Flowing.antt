@@ -10,6 +10,7 @@ use lib.Dec.{leb, ltb, eqb}
 use lib.ListN.{getD, set}
 use borrow.Author.Tests.{not-true, not-false, eq-eqb, ne-eqb, leb-true, ltb-true, le-leb, lt-leb, lt-ltb, le-ltb}
 use Rattle.route.specs.declared.places.Place.{Place}
+use Rattle.route.specs.declared.meshes.Mesh.{Mesh as Coded}
 use Rattle.route.specs.Numbers.{place-of, channels}
 use Rattle.route.specs.Paths.{same-place}
 use Rattle.route.specs.Channels.{far}

@@ -7,6 +7,7 @@ use native.Mathlib.Omega.{arith}
 use lib.Dec.{T, leb, eqb}
 use borrow.Author.Tests.{not-true, not-false, leb-true}
 use Rattle.route.specs.declared.places.Place.{Place}
+use Rattle.route.specs.declared.meshes.Mesh.{Mesh as Coded}
 use Rattle.route.specs.Grid.{pick, Dir, west, east, south, north, hop}
 use Rattle.route.specs.Turns.{Arrival, local, going}
 use Rattle.route.specs.Mesh.{Mesh, Inside, exists}

@@ -8,6 +8,7 @@ use native.Mathlib.Omega.{arith}
 use lib.Dec.{T, ltb, eqb}
 use lib.ListN.{drop}
 use borrow.Author.Tests.{ltb-true}
+use Rattle.route.specs.declared.meshes.Mesh.{Mesh as Coded}
 use Rattle.route.specs.Grid.{pick}
 use Rattle.route.specs.Mesh.{Mesh}
 use Rattle.route.specs.Numbers.{channels}

@@ -24,6 +24,7 @@ use Rattle.traffic.proofs.reads.served_count.Met as served-count-thm
 use Rattle.traffic.proofs.headers.packet_at as packet-at
 use Rattle.traffic.proofs.headers.packet_at.Symbol as packet-at-def
 use Rattle.traffic.proofs.headers.packet_at.Met as packet-at-thm
+use Rattle.traffic.proofs.reads.mesh_read.Key.{name as #mesh-read}
 use Rattle.traffic.proofs.reads.mesh_read as f
 use Rattle.traffic.proofs.reads.mesh_read.Statement as stated
 use Rattle.traffic.proofs.reads.mesh_read.Code as code

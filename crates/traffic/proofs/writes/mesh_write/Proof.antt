@@ -27,6 +27,7 @@ use Rattle.traffic.proofs.writes.put_record.Met as put-record-thm
 use Rattle.traffic.proofs.writes.answer as answer
 use Rattle.traffic.proofs.writes.answer.Symbol as answer-def
 use Rattle.traffic.proofs.writes.answer.Met as answer-thm
+use Rattle.traffic.proofs.writes.mesh_write.Key.{name as #mesh-write}
 use Rattle.traffic.proofs.writes.mesh_write as f
 use Rattle.traffic.proofs.writes.mesh_write.Statement as stated
 use Rattle.traffic.proofs.writes.mesh_write.Code as code

@@ -20,6 +20,7 @@ use Rattle.wormhole.proofs.moves.attempt.Met as attempt-thm
 use Rattle.wormhole.proofs.records.put_back as put-back
 use Rattle.wormhole.proofs.records.put_back.Symbol as put-back-def
 use Rattle.wormhole.proofs.records.put_back.Met as put-back-thm
+use Rattle.wormhole.proofs.moves.mesh_move.Key.{name as #mesh-move}
 use Rattle.wormhole.proofs.moves.mesh_move as f
 use Rattle.wormhole.proofs.moves.mesh_move.Statement as stated
 use Rattle.wormhole.proofs.moves.mesh_move.Code as code

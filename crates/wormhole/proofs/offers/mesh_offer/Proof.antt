@@ -16,6 +16,7 @@ use Rattle.wormhole.proofs.offers.place.Met as place-thm
 use Rattle.wormhole.proofs.records.put_back as put-back
 use Rattle.wormhole.proofs.records.put_back.Symbol as put-back-def
 use Rattle.wormhole.proofs.records.put_back.Met as put-back-thm
+use Rattle.wormhole.proofs.offers.mesh_offer.Key.{name as #mesh-offer}
 use Rattle.wormhole.proofs.offers.mesh_offer as f
 use Rattle.wormhole.proofs.offers.mesh_offer.Statement as stated
 use Rattle.wormhole.proofs.offers.mesh_offer.Code as code

@@ -10,6 +10,7 @@ use Rattle.wormhole.proofs.records.none.Met as empty-thm
 use Rattle.wormhole.proofs.records.put_back as put-back
 use Rattle.wormhole.proofs.records.put_back.Symbol as put-back-def
 use Rattle.wormhole.proofs.records.put_back.Met as put-back-thm
+use Rattle.wormhole.proofs.records.clear.Key.{name as #clear}
 use Rattle.wormhole.proofs.records.clear as f
 use Rattle.wormhole.proofs.records.clear.Statement as stated
 use Rattle.wormhole.proofs.records.clear.Code as code

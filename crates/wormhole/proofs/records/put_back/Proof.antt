@@ -18,6 +18,7 @@ use Rattle.wormhole.proofs.Walks.Names.{refl, ℕ, _*_, _<_, _^_, List,
 use Rattle.wormhole.specs.Memory.{none}
 use Rattle.wormhole.specs.declared.records.Record.{Record}
 use Rattle.wormhole.proofs.Data.{rec, within}
+use Rattle.wormhole.proofs.records.put_back.Key.{name as #put-back}
 use Rattle.wormhole.proofs.records.put_back as f
 use Rattle.wormhole.proofs.records.put_back.Statement as stated
 use Rattle.wormhole.proofs.records.put_back.Code as code

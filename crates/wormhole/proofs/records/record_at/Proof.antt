@@ -18,6 +18,7 @@ use Rattle.wormhole.proofs.Data.{rec, rec-copy, within}
 use Rattle.wormhole.proofs.records.none as empty
 use Rattle.wormhole.proofs.records.none.Symbol as empty-def
 use Rattle.wormhole.proofs.records.none.Met as empty-thm
+use Rattle.wormhole.proofs.records.record_at.Key.{name as #record-at}
 use Rattle.wormhole.proofs.records.record_at as f
 use Rattle.wormhole.proofs.records.record_at.Statement as stated
 use Rattle.wormhole.proofs.records.record_at.Code as code

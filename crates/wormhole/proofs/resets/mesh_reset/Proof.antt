@@ -13,6 +13,7 @@ use Rattle.wormhole.proofs.resets.wipe.Met as wipe-thm
 use Rattle.wormhole.proofs.records.clear as clear
 use Rattle.wormhole.proofs.records.clear.Symbol as clear-def
 use Rattle.wormhole.proofs.records.clear.Met as clear-thm
+use Rattle.wormhole.proofs.resets.mesh_reset.Key.{name as #mesh-reset}
 use Rattle.wormhole.proofs.resets.mesh_reset as f
 use Rattle.wormhole.proofs.resets.mesh_reset.Statement as stated
 use Rattle.wormhole.proofs.resets.mesh_reset.Code as code

@@ -14,6 +14,7 @@ use Rattle.wormhole.proofs.surveys.see.Met as see-thm
 use Rattle.wormhole.proofs.records.record_at as record-at
 use Rattle.wormhole.proofs.records.record_at.Symbol as record-at-def
 use Rattle.wormhole.proofs.records.record_at.Met as record-at-thm
+use Rattle.wormhole.proofs.surveys.survey.Key.{name as #survey}
 use Rattle.wormhole.proofs.surveys.survey as f
 use Rattle.wormhole.proofs.surveys.survey.Statement as stated
 use Rattle.wormhole.proofs.surveys.survey.Code as code
