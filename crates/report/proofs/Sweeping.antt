@@ -1,29 +1,30 @@
 -- A turn within a sweep: what it tries can be tried, on memory that was reached, and leaves the tally of one turn more. Assumes nothing.
 use Prim.Native.Nat.{ℕ, suc, _+_, _-_, _*_, _/_, _%_, _^_, _≤_, _<_}
 use mathlib.Core.Path.{_≡_, refl, sym, _∙_, ap, subst}
-use mathlib.Core.Bool.{Bool, true, false}
+use mathlib.Core.Bool.{Bool, true, false, not}
 use mathlib.Core.List.{List}
 use native.Mathlib.Omega.{arith}
 use native.Mathlib.Nat.{mul-le-mul}
 use lib.Dec.{ltb}
 use lib.ListN.{length, set, getD}
-use borrow.Author.Tests.{ltb-true, ltb-false}
+use borrow.Author.Tests.{ltb-true, ltb-false, not-true}
 use Rattle.route.specs.declared.meshes.Mesh.{Mesh as Coded}
 use Rattle.route.specs.Grid.{pick}
 use Rattle.route.specs.Mesh.{Mesh, ruled}
 use Rattle.route.specs.Numbers.{channels, rule-of}
 use Rattle.route.specs.Coded.{meant}
 use Rattle.route.proofs.Promises.{words-fit}
-use Rattle.wormhole.specs.Memory.{sections, owner-of}
+use Rattle.wormhole.specs.Memory.{sections, owner-of, none}
 use Rattle.wormhole.specs.Drains.{Move}
 use Rattle.wormhole.specs.Coded.{Fitting, Memory, built, laid}
 use Rattle.report.specs.declared.turns.Counted.{Counted}
 use Rattle.report.specs.declared.turns.Turn.{Turn}
 use Rattle.report.specs.Sweeps.{Tally, own, owners, turn, tried, turns, sweep}
-use Rattle.report.specs.Coded.{tally, move-of, attempted, Tryable, Reached}
+use Rattle.report.specs.Coded.{tally, move-of, owned, accepted, made, Tryable, Reached}
 use Rattle.report.proofs.Counting.{length-recs, recs-at, counts-at}
 use Rattle.report.proofs.Reaching.{long-words, many, owner-few, memory-reached, record-reached, few-each, reached-turns}
-use Rattle.report.proofs.Trying.{one-turn}
+use Rattle.report.proofs.Trying.{no-turn, one-turn}
+use Rattle.report.proofs.Turning.{unowned}
 
 -- ---- the move of a turn
 -- what is known of one
@@ -83,6 +84,9 @@ module _ (C R rule : ℕ) (w₀ : List ℕ) (cs₀ : List Counted) (H : Reached 
     pub turn-packet : v .packet < 64
     turn-packet = its .packets
 
+    pub turn-channel : v .channel < n
+    turn-channel = its .numbers
+
     low : v .packet < length cs
     low = omega (arith, turn-packet, all-there)
 
@@ -103,14 +107,30 @@ module _ (C R rule : ℕ) (w₀ : List ℕ) (cs₀ : List Counted) (H : Reached 
             let er : m .rows ≡ R = ap (λ (x : Mesh). x .rows) em in
             record { kinds = its .kinds; ways = its .ways; numbers = rw (ec, er) (rw hn at (its .numbers)) }
 
-        pub turn-more : (w′ : List ℕ) (q : Counted) → record { words = laid m w′; counted = q } ≡ attempted (built m) (laid m w) v (getD cs (v .packet) d)
-            → tally w′ (set cs (v .packet) q) ≡ turns C R rule (tally w₀ cs₀) (t + 1)
-        unfolding turns
-        turn-more w′ q a =
-            let s : t + 1 ≡ suc t = omega arith in
-            let step : Tally → Tally = λ S. tried C R rule S (turn (length (S .lent .records)) (channels C R) (S .lent .words) t) in
-            let there : move-of v ≡ turn (length (tally w cs .lent .records)) (channels C R) w t = rw (many C R rule (tally w cs) here) (rw hn at ev) in
-            one-turn C R rule w cs here v low d m em w′ q a ∙ (ap (tried C R rule (tally w cs)) there ∙ (ap step e ∙ rw s refl))
+        module _ {b : Bool} (eb : b ≡ accepted (built m) (laid m w) (v .packet) (getD cs (v .packet) d .packet) (v .kind) (v .channel) (v .direction)) where
+          next : {T : Tally} → T ≡ tried C R rule (tally w cs) (move-of v) → T ≡ turns C R rule (tally w₀ cs₀) (t + 1)
+          unfolding turns
+          next q =
+              let s : t + 1 ≡ suc t = omega arith in
+              let step : Tally → Tally = λ S. tried C R rule S (turn (length (S .lent .records)) (channels C R) (S .lent .words) t) in
+              let there : move-of v ≡ turn (length (tally w cs .lent .records)) (channels C R) w t = rw (many C R rule (tally w cs) here) (rw hn at ev) in
+              q ∙ (ap (tried C R rule (tally w cs)) there ∙ (ap step e ∙ rw s refl))
+
+          pub turn-kept : b ≡ false → tally w cs ≡ turns C R rule (tally w₀ cs₀) (t + 1)
+          turn-kept h = next (no-turn C R rule w cs here v low d m em eb h)
+
+          pub turn-made : b ≡ true → (w′ : List ℕ) (q : Counted) → record { words = laid m w′; counted = q } ≡ made (built m) (laid m w) v (getD cs (v .packet) d)
+              → tally w′ (set cs (v .packet) q) ≡ turns C R rule (tally w₀ cs₀) (t + 1)
+          turn-made h w′ q a = next (one-turn C R rule w cs here v low d m em eb h w′ q a)
+
+    -- a turn that nobody could make
+    pub turn-unowned : (m : Coded) → meant m ≡ ruled (rule-of rule) C R 0 → {b : Bool} → b ≡ owned (sections n w) v → not b ≡ true → tally w cs ≡ turns C R rule (tally w₀ cs₀) (t + 1)
+    turn-unowned m em {b} eb h =
+        let ec : m .columns ≡ C = ap (λ (x : Mesh). x .columns) em in
+        let er : m .rows ≡ R = ap (λ (x : Mesh). x .rows) em in
+        let off : owned (laid m w) v ≡ false = rw (ec, er, ← hn) (sym eb ∙ not-true b h) in
+        let d : Counted = record { packet = none; moves = 0 } in
+        turn-kept d m em refl (unowned (laid m w) v (built m) (getD cs (v .packet) d .packet) off)
 
   -- ---- its end
   pub sweep-length : length w ≡ length w₀

@@ -1,22 +1,19 @@
 -- A turn as the code tries it on one packet is the move of the whole machine: by the cases of its being accepted. Assumes nothing.
-use Prim.Native.Nat.{ℕ, suc, _+_, _-_, _<_}
-use mathlib.Core.Path.{_≡_, refl, sym, _∙_, ap, subst}
-use mathlib.Core.Bool.{Bool, true, false, not, _&&_}
+use Prim.Native.Nat.{ℕ, _+_, _-_, _<_}
+use mathlib.Core.Path.{_≡_, sym, _∙_, ap, subst}
+use mathlib.Core.Bool.{Bool, true, false, _&&_}
 use mathlib.Core.List.{List}
 use native.Mathlib.Omega.{arith}
 use lib.Dec.{T, eqb}
 use lib.ListN.{length, set, getD}
-use lib.Seq.{set-getD}
 use mir.Facts.{and-yes, yes-and, eqb-yes, yes-eqb}
-use borrow.Author.Tests.{ne-eqb}
 use Rattle.route.specs.declared.meshes.Mesh.{Mesh as Coded}
-use Rattle.route.specs.Grid.{pick}
 use Rattle.route.specs.Mesh.{Mesh, ruled}
 use Rattle.route.specs.Numbers.{channels, rule-of}
 use Rattle.route.specs.Coded.{meant}
 use Rattle.wormhole.specs.declared.records.Record.{Record}
 use Rattle.wormhole.specs.Memory.{net, Sections, sections, joined, none}
-use Rattle.wormhole.specs.Steps.{known, may, act}
+use Rattle.wormhole.specs.Steps.{known, may}
 use Rattle.wormhole.specs.Calls.{move}
 use Rattle.wormhole.specs.Drains.{moving, any, moves, makes}
 use Rattle.wormhole.specs.Coded.{built, laid}
@@ -25,9 +22,10 @@ use Rattle.wormhole.proofs.Draining.Answers as answers
 use Rattle.report.specs.declared.turns.Counted.{Counted}
 use Rattle.report.specs.declared.turns.Turn.{Turn}
 use Rattle.report.specs.Sweeps.{Tally, tried}
-use Rattle.report.specs.Coded.{recs, counts, tally, move-of, accepted, Attempt, attempted, Reached}
+use Rattle.report.specs.Coded.{recs, counts, tally, move-of, accepted, Attempt, made, Reached}
 use Rattle.report.proofs.Counting.{length-recs, recs-set, recs-at, counts-set, counts-at}
 use Rattle.report.proofs.Reaching.{many, sized, fit}
+use Rattle.report.proofs.Tracing.{refused}
 
 -- ---- the machine's answer, by the tests that the code makes
 module _ (C R rule : ℕ) (S : Tally) (H : Reached C R rule S) (v : Turn) (low : v .packet < 64) where
@@ -75,56 +73,35 @@ module _ (C R rule : ℕ) (w : List ℕ) (cs : List Counted) (H : Reached C R ru
   same : getD (recs cs) (v .packet) none ≡ c .packet
   same = recs-at cs (v .packet) d low
 
-  -- the tests, on the packet's own record
-  abbrev passes : Bool
-  passes = accepted (net C R rule) s (v .packet) (c .packet) (v .kind) (v .channel) (v .direction)
+  -- the tests, as the code makes them
+  module _ (m : Coded) (em : meant m ≡ ruled (rule-of rule) C R 0) {b : Bool} (eb : b ≡ accepted (built m) (laid m w) (v .packet) (c .packet) (v .kind) (v .channel) (v .direction)) where
+    same-tests : asked C R rule S H v few ≡ b
+    same-tests =
+        let ec : m .columns ≡ C = ap (λ (n : Mesh). n .columns) em in
+        let er : m .rows ≡ R = ap (λ (n : Mesh). n .rows) em in
+        rw same (sym (rw (em, ec, er) at eb))
 
-  -- the move made and counted
-  abbrev done : Attempt
-  done =
-      let a = act (net C R rule) s (v .packet) (c .packet) (v .kind) (v .channel) (v .direction) in
-      record { words = a .words; counted = record { packet = a .packet; moves = suc (c .moves) } }
+    -- a turn that is refused leaves all as it is
+    pub no-turn : b ≡ false → tally w cs ≡ tried C R rule S (move-of v)
+    no-turn h =
+        let off : asked C R rule S H v few ≡ false = same-tests ∙ h in
+        sym (refused C R rule S (move-of v) (answers-no C R rule S H v few (λ t. subst T off t)))
 
-  -- and not
-  abbrev undone : Attempt
-  undone = record { words = s; counted = c }
-
-  -- what is left of the packet
-  abbrev leaves : List ℕ → Counted → Attempt
-  leaves w′ q = record { words = sections (channels C R) w′; counted = q }
-
-  tried-is : (b : Bool) → passes ≡ b → (w′ : List ℕ) (q : Counted) → leaves w′ q ≡ pick b done undone
-      → tally w′ (set cs (v .packet) q) ≡ tried C R rule S (move-of v)
-  unfolding tried
-  tried-is true p w′ q e =
-      let t : T (asked C R rule S H v few) = subst T (sym (rw (← same) at p)) tt in
-      let z = answers-yes C R rule S H v few t in
-      let g = answers.moved C R rule w (recs cs) (v .packet) (v .kind) (v .channel) (v .direction) z in
-      let ew : w′ ≡ move C R rule w (recs cs) (v .packet) (v .kind) (v .channel) (v .direction) .words =
-      sym (rejoined (channels C R) w′) ∙ (ap (λ (a : Attempt). joined (a .words)) e ∙ rw (← same) (sym (g .words))) in
-      let er : recs (set cs (v .packet) q) ≡ move C R rule w (recs cs) (v .packet) (v .kind) (v .channel) (v .direction) .records =
-      recs-set cs (v .packet) q ∙ (ap (λ (a : Attempt). set (recs cs) (v .packet) (a .counted .packet)) e ∙ rw (← same) (sym (g .records))) in
-      let ec : counts (set cs (v .packet) q) ≡ set (counts cs) (v .packet) (getD (counts cs) (v .packet) 0 + makes C R rule any (S .lent) (moving (move-of v))) =
-      counts-set cs (v .packet) q ∙ (ap (λ (a : Attempt). set (counts cs) (v .packet) (a .counted .moves)) e ∙ rw (z, counts-at cs (v .packet) d low) (ap (set (counts cs) (v .packet)) (omega arith))) in
-      λ i. record { lent = record { words = ew i; records = er i }; made = ec i }
-  tried-is false p w′ q e =
-      let off : asked C R rule S H v few ≡ false = rw same p in
-      let n = answers-no C R rule S H v few (λ t. subst T off t) in
-      let u = answers.unmoved C R rule w (recs cs) (v .packet) (v .kind) (v .channel) (v .direction) n in
-      let eq : q ≡ c = ap (λ (a : Attempt). a .counted) e in
-      let stays : set cs (v .packet) q ≡ cs = rw eq (set-getD cs (v .packet) d) in
-      let ew : w′ ≡ move C R rule w (recs cs) (v .packet) (v .kind) (v .channel) (v .direction) .words =
-      sym (rejoined (channels C R) w′) ∙ (ap (λ (a : Attempt). joined (a .words)) e ∙ (rejoined (channels C R) w ∙ sym (u .0))) in
-      let er : recs (set cs (v .packet) q) ≡ move C R rule w (recs cs) (v .packet) (v .kind) (v .channel) (v .direction) .records = ap recs stays ∙ sym (u .1) in
-      let ec : counts (set cs (v .packet) q) ≡ set (counts cs) (v .packet) (getD (counts cs) (v .packet) 0 + makes C R rule any (S .lent) (moving (move-of v))) =
-      ap counts stays ∙ sym (rw (ne-eqb (moves C R rule (S .lent) (move-of v) .answer) 0 n) (ap (set (counts cs) (v .packet)) (omega arith) ∙ set-getD (counts cs) (v .packet) 0)) in
-      λ i. record { lent = record { words = ew i; records = er i }; made = ec i }
-
-  -- what `attempt` leaves of a packet is what the machine leaves of all
-  pub one-turn : (m : Coded) → meant m ≡ ruled (rule-of rule) C R 0 → (w′ : List ℕ) (q : Counted)
-      → record { words = laid m w′; counted = q } ≡ attempted (built m) (laid m w) v c → tally w′ (set cs (v .packet) q) ≡ tried C R rule S (move-of v)
-  unfolding attempted
-  one-turn m em w′ q e =
-      let ec = ap (λ (n : Mesh). n .columns) em in
-      let er = ap (λ (n : Mesh). n .rows) em in
-      tried-is passes refl w′ q (rw (em, ec, er) at e)
+    -- what is made of a packet is what the machine makes of all
+    pub one-turn : b ≡ true → (w′ : List ℕ) (q : Counted) → record { words = laid m w′; counted = q } ≡ made (built m) (laid m w) v c
+        → tally w′ (set cs (v .packet) q) ≡ tried C R rule S (move-of v)
+    unfolding tried made
+    one-turn h w′ q e =
+        let ec : m .columns ≡ C = ap (λ (n : Mesh). n .columns) em in
+        let er : m .rows ≡ R = ap (λ (n : Mesh). n .rows) em in
+        let f : record { words = sections (channels C R) w′; counted = q } ≡ made (net C R rule) s v c = rw (em, ec, er) at e in
+        let z = answers-yes C R rule S H v few (subst T (sym (same-tests ∙ h)) tt) in
+        let g = answers.moved C R rule w (recs cs) (v .packet) (v .kind) (v .channel) (v .direction) z in
+        let o = move C R rule w (recs cs) (v .packet) (v .kind) (v .channel) (v .direction) in
+        let ew : w′ ≡ o .words =
+        sym (rejoined (channels C R) w′) ∙ (ap (λ (a : Attempt). joined (a .words)) f ∙ rw (← same) (sym (g .words))) in
+        let er : recs (set cs (v .packet) q) ≡ o .records =
+        recs-set cs (v .packet) q ∙ (ap (λ (a : Attempt). set (recs cs) (v .packet) (a .counted .packet)) f ∙ rw (← same) (sym (g .records))) in
+        let ec : counts (set cs (v .packet) q) ≡ set (counts cs) (v .packet) (getD (counts cs) (v .packet) 0 + makes C R rule any (S .lent) (moving (move-of v))) =
+        counts-set cs (v .packet) q ∙ (ap (λ (a : Attempt). set (counts cs) (v .packet) (a .counted .moves)) f ∙ rw (z, counts-at cs (v .packet) d low) (ap (set (counts cs) (v .packet)) (omega arith))) in
+        λ i. record { lent = record { words = ew i; records = er i }; made = ec i }

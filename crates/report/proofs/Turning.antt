@@ -1,27 +1,26 @@
 -- What the functions of one turn return: each by the tests before it. Assumes nothing.
 use Prim.Native.Nat.{ℕ, zero, suc, _+_, _-_, _/_, _%_, _≤_, _<_}
-use mathlib.Core.Path.{_≡_, refl, sym, _∙_}
-use mathlib.Core.Bool.{Bool, true, false, not, _&&_, and-false}
+use mathlib.Core.Path.{_≡_, refl, sym, _∙_, subst}
+use mathlib.Core.Bool.{Bool, true, false, not, _||_, and-false}
 use mathlib.Core.List.{List}
 use native.Mathlib.Omega.{arith}
-use lib.Dec.{eqb}
-use borrow.Author.Tests.{ne-eqb, not-true, not-false, lt-ltb, le-ltb}
+use lib.Dec.{T, eqb}
+use borrow.Author.Tests.{eq-eqb, ne-eqb, eqb-true, not-true, not-false, lt-ltb, le-ltb}
 use Rattle.route.specs.declared.meshes.Mesh.{Mesh as Coded}
 use Rattle.route.specs.Channels.{is-channel}
-use Rattle.route.specs.Numbers.{channels}
 use Rattle.route.specs.Coded.{meant}
 use Rattle.wormhole.specs.declared.records.Record.{Record}
 use Rattle.wormhole.specs.Memory.{Net, Sections, sections, owner-of}
 use Rattle.wormhole.specs.Steps.{stepped, known, may, may-follow, act}
 use Rattle.wormhole.specs.Calls.{allowed}
 use Rattle.wormhole.specs.Drains.{Move}
-use Rattle.wormhole.specs.Coded.{built, laid, sides}
+use Rattle.wormhole.specs.Coded.{built, sides}
 use Rattle.wormhole.proofs.Every.{both}
 use Rattle.wormhole.proofs.AnyRule.{same-channels}
 use Rattle.report.specs.declared.turns.Counted.{Counted}
 use Rattle.report.specs.declared.turns.Turn.{Turn}
 use Rattle.report.specs.Sweeps.{own, turn}
-use Rattle.report.specs.Coded.{accepted, attempted}
+use Rattle.report.specs.Coded.{owned, accepted, made}
 
 -- ---- which move
 pub lead-turn : (t : ℕ) → t % 6 < 4 → record { packet = t / 6; kind = 0; channel = 0; direction = t % 6 } ≡ own t
@@ -39,12 +38,6 @@ module _ (n : ℕ) (w : List ℕ) (t : ℕ) where
 
 -- ---- is it accepted
 module _ (m : Coded) (s : Sections) (i : ℕ) (r : Record) (k d : ℕ) where
-  free : owner-of s k ≡ 0 → false ≡ accepted (built m) s i r 1 k d
-  unfolding may may-follow
-  free z =
-      let n : eqb (owner-of s k) (i + 1) ≡ false = ne-eqb (owner-of s k) (i + 1) (λ q. absurd (omega (arith, z, q))) in
-      rw (n, and-false (eqb (r .live) 1), and-false (is-channel (meant m) k)) refl
-
   known-channel : {b : Bool} → b ≡ is-channel (sides (m .columns) (m .rows)) k → b ≡ is-channel (meant m) k
   known-channel e = e ∙ (λ x. same-channels (meant m) x k)
 
@@ -71,30 +64,47 @@ module _ (m : Coded) (s : Sections) (i : ℕ) (r : Record) (k d : ℕ) where
   pub other-asked : (kind : ℕ) → kind ≤ 3 → (kind ≡ 0 → d < 4) → (kind ≡ 1 → ⊥) → {b : Bool} → b ≡ allowed (built m) s i r kind k d → b ≡ accepted (built m) s i r kind k d
   other-asked kind l h x q = rw (other-known kind l h x) q
 
--- one that a free channel is asked for
-pub free-refused : (m : Coded) (w : List ℕ) (i : ℕ) (r : Record) (k d : ℕ) {n o : ℕ} → n ≡ channels (m .columns) (m .rows) → o ≡ owner-of (sections n w) k → o ≡ 0
-    → false ≡ accepted (built m) (laid m w) i r 1 k d
-free-refused m w i r k d hn e z = free m (laid m w) i r k d (sym (rw hn at e) ∙ z)
+-- ---- before one looks at the packet
+module _ (s : Sections) (v : Turn) where
+  pub other-owned : (v .kind ≡ 1 → ⊥) → true ≡ owned s v
+  other-owned h = rw (ne-eqb (v .kind) 1 h) refl
 
--- ---- what is left
-module _ (N : Net) (s : Sections) (v : Turn) (c : Counted) {b : Bool} (e : b ≡ accepted N s (v .packet) (c .packet) (v .kind) (v .channel) (v .direction)) where
-  pub not-tried : not b ≡ true → record { words = s; counted = c } ≡ attempted N s v c
-  unfolding attempted
-  not-tried h = rw (sym e ∙ not-true b h) refl
+  pub follow-owned : v .kind ≡ 1 → {o : ℕ} {b : Bool} → o ≡ owner-of s (v .channel) → b ≡ not (eqb o 0) → b ≡ owned s v
+  follow-owned h eo eb = rw (eq-eqb (v .kind) 1 h, ← eo) eb
 
-  module _ (h : not b ≡ false) where
-    passed : known (N .mesh) (v .kind) (v .channel) (v .direction) && allowed N s (v .packet) (c .packet) (v .kind) (v .channel) (v .direction) ≡ true
-    passed = sym e ∙ not-false b h
+  -- one that nobody could make is refused
+  pub unowned : (N : Net) (r : Record) → owned s v ≡ false → accepted N s (v .packet) r (v .kind) (v .channel) (v .direction) ≡ false
+  unfolding may may-follow
+  unowned N r e = by (v .kind) (eqb (v .kind) 1) (eqb (owner-of s (v .channel)) 0) (λ t. eqb-true (v .kind) 1 t) (λ t. eqb-true (owner-of s (v .channel)) 0 t) e
+    where
+      by : (kind : ℕ) (a b : Bool) → (a ≡ true → kind ≡ 1) → (b ≡ true → owner-of s (v .channel) ≡ 0) → not a || not b ≡ false
+          → accepted N s (v .packet) r kind (v .channel) (v .direction) ≡ false
+      by kind true true f g t =
+          let n : eqb (owner-of s (v .channel)) (v .packet + 1) ≡ false = ne-eqb (owner-of s (v .channel)) (v .packet + 1) (λ q. absurd (omega (arith, g refl, q))) in
+          rw (f refl, n, and-false (eqb (r .live) 1), and-false (is-channel (N .mesh) (v .channel))) refl
+      by kind true false f g t = absurd (subst T t tt)
+      by kind false b f g t = absurd (subst T t tt)
 
-    pub is-known : known (N .mesh) (v .kind) (v .channel) (v .direction) ≡ true
-    is-known = both (known (N .mesh) (v .kind) (v .channel) (v .direction)) (allowed N s (v .packet) (c .packet) (v .kind) (v .channel) (v .direction)) passed .0
+-- ---- what is made
+module _ (N : Net) (s : Sections) (v : Turn) (c : Counted) (e : accepted N s (v .packet) (c .packet) (v .kind) (v .channel) (v .direction) ≡ true) where
+  parts : (known (N .mesh) (v .kind) (v .channel) (v .direction) ≡ true) × (allowed N s (v .packet) (c .packet) (v .kind) (v .channel) (v .direction) ≡ true)
+  parts = both (known (N .mesh) (v .kind) (v .channel) (v .direction)) (allowed N s (v .packet) (c .packet) (v .kind) (v .channel) (v .direction)) e
 
-    pub is-allowed : allowed N s (v .packet) (c .packet) (v .kind) (v .channel) (v .direction) ≡ true
-    is-allowed = both (known (N .mesh) (v .kind) (v .channel) (v .direction)) (allowed N s (v .packet) (c .packet) (v .kind) (v .channel) (v .direction)) passed .1
+  able : (eqb (c .packet .live) 1 ≡ true) × (may N s (v .packet) (c .packet) (v .kind) (v .channel) (v .direction) ≡ true)
+  able = both (eqb (c .packet .live) 1) (may N s (v .packet) (c .packet) (v .kind) (v .channel) (v .direction)) (parts .1)
 
-    pub made-counted : (t : Sections) (q : Record) (k : ℕ) → stepped t q ≡ act N s (v .packet) (c .packet) (v .kind) (v .channel) (v .direction) → k ≡ c .moves + 1
-        → record { words = t; counted = record { packet = q; moves = k } } ≡ attempted N s v c
-    unfolding attempted
-    made-counted t q k f g =
-        let one : k ≡ suc (c .moves) = omega (arith, g) in
-        rw (passed) (λ i. record { words = f i .words; counted = record { packet = f i .packet; moves = one i } })
+  pub make-known : known (N .mesh) (v .kind) (v .channel) (v .direction) ≡ true
+  make-known = parts .0
+
+  pub make-live : c .packet .live ≡ 1
+  make-live = eqb-true (c .packet .live) 1 (able .0)
+
+  pub make-may : may N s (v .packet) (c .packet) (v .kind) (v .channel) (v .direction) ≡ true
+  make-may = able .1
+
+pub made-counted : (N : Net) (s : Sections) (v : Turn) (c : Counted) (t : Sections) (q : Record) (k : ℕ) → stepped t q ≡ act N s (v .packet) (c .packet) (v .kind) (v .channel) (v .direction)
+    → k ≡ c .moves + 1 → record { words = t; counted = record { packet = q; moves = k } } ≡ made N s v c
+unfolding made
+made-counted N s v c t q k f g =
+    let one : k ≡ suc (c .moves) = omega (arith, g) in
+    λ i. record { words = f i .words; counted = record { packet = f i .packet; moves = one i } }

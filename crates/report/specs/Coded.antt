@@ -1,17 +1,17 @@
 -- What the code's own values stand for: cited by the contracts of its inner functions. No call's promise rests on it. Assumes nothing.
 use Prim.Native.Nat.{ℕ, suc, _≤_, _<_}
 use mathlib.Core.Path.{_≡_}
-use mathlib.Core.Bool.{Bool, _&&_}
+use mathlib.Core.Bool.{Bool, not, _&&_, _||_}
 use mathlib.Core.List.{List, [], _∷_, _++_}
+use lib.Dec.{eqb}
 use lib.ListN.{length, take, drop}
 use Rattle.route.specs.declared.meshes.Mesh.{Mesh}
-use Rattle.route.specs.Grid.{pick}
 use Rattle.route.specs.Numbers.{channels}
 use Rattle.wormhole.specs.declared.records.Record.{Record}
-use Rattle.wormhole.specs.Memory.{Net, Sections}
+use Rattle.wormhole.specs.Memory.{Net, Sections, owner-of}
 use Rattle.wormhole.specs.Steps.{known, act}
 use Rattle.wormhole.specs.Calls.{allowed}
-use Rattle.wormhole.specs.Drains.{Move, Call, now, work, made}
+use Rattle.wormhole.specs.Drains.{Move, Call, now, work, made as all-made}
 use Rattle.route.specs.Served.{unless}
 use Rattle.traffic.specs.Coded.{Page, page, puts}
 use Rattle.report.specs.declared.turns.Counted.{Counted}
@@ -38,6 +38,10 @@ tally w cs = record { lent = record { words = w; records = recs cs }; made = cou
 abbrev pub move-of : Turn → Move
 move-of v = record { packet = v .packet; kind = v .kind; channel = v .channel; direction = v .direction }
 
+-- a turn that is not the follow from a free channel
+abbrev pub owned : Sections → Turn → Bool
+owned s v = not (eqb (v .kind) 1) || not (eqb (owner-of s (v .channel)) 0)
+
 -- the machine accepts a move of packet i, whose record is r
 abbrev pub accepted : Net → Sections → ℕ → Record → ℕ → ℕ → ℕ → Bool
 accepted N s i r kind k d = known (N .mesh) kind k d && allowed N s i r kind k d
@@ -47,13 +51,11 @@ pub record Attempt : Type 0 where
   pub words : Sections
   pub counted : Counted
 
--- a turn that is tried on them
-unfoldable pub attempted : Net → Sections → Turn → Counted → Attempt
-attempted N s v c =
+-- a turn that is made on them and counted
+unfoldable pub made : Net → Sections → Turn → Counted → Attempt
+made N s v c =
     let after = act N s (v .packet) (c .packet) (v .kind) (v .channel) (v .direction) in
-    pick (accepted N s (v .packet) (c .packet) (v .kind) (v .channel) (v .direction))
-    (record { words = after .words; counted = record { packet = after .packet; moves = suc (c .moves) } })
-    (record { words = s; counted = c })
+    record { words = after .words; counted = record { packet = after .packet; moves = suc (c .moves) } }
 
 -- a turn that can be tried: a lead's direction is one of the four, a follow's channel has a number of the mesh
 pub record Tryable (m : Mesh) (v : Turn) : Type 0 where
@@ -72,7 +74,7 @@ pub record Reached (C R rule : ℕ) (S : Tally) : Type 0 where
   pub there : S .lent ≡ now C R rule 64 calls
   pub few : work C R rule 64 calls ≤ 396800
   pub long : length (S .made) ≡ 64
-  pub low : sum (S .made) ≤ made C R rule 64 calls
+  pub low : sum (S .made) ≤ all-made C R rule 64 calls
 
 -- the words, and the page of a sheet
 pub record Printed : Type 0 where

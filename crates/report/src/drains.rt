@@ -2,7 +2,9 @@
 use crate::turns::Counted;
 use crate::turns::OWN_TURNS;
 use crate::turns::RECORDS;
-use crate::turns::attempt;
+use crate::turns::is_accepted;
+use crate::turns::is_owned;
+use crate::turns::make;
 use crate::turns::turn_at;
 use route::mesh_of;
 use traffic::lead_of;
@@ -94,10 +96,15 @@ fn sweep(
     let mut t: usize = 0;
     while t < end {
         let v = turn_at(words, n, t);
+        t += 1;
+        if !is_owned(words, n, v) {
+            continue;
+        }
         let i = v.packet as usize;
         let c = all[i];
-        all[i] = attempt(words, m, v, c);
-        t += 1;
+        if is_accepted(words, m, v, c.packet) {
+            all[i] = make(words, m, v, c);
+        }
     }
     all
 }

@@ -4,18 +4,17 @@ use wormhole::FOLLOW;
 use wormhole::LEAD;
 use wormhole::Record;
 use wormhole::act;
-use wormhole::channels_of;
 use wormhole::is_channel;
 use wormhole::may_move;
 use wormhole::owner_of;
 ghost use mathlib.Core.Path.{_≡_};
+ghost use mathlib.Core.Bool.{true};
 ghost use Prim.Native.Nat.{_+_, _-_, _<_, _^_};
 ghost use lib.ListN.{length};
-ghost use Rattle.route.specs.Numbers.{channels};
 ghost use Rattle.wormhole.specs.Memory.{sections, owner-of};
 ghost use Rattle.wormhole.specs.Coded.{Fitting, Memory, built, laid};
 ghost use Rattle.report.specs.Sweeps.{own, turn};
-ghost use Rattle.report.specs.Coded.{accepted, attempted, Tryable, move-of};
+ghost use Rattle.report.specs.Coded.{owned, accepted, made, Tryable, move-of};
 
 // The records of a report.
 pub const RECORDS: usize = 64;
@@ -91,17 +90,24 @@ pub fn turn_at(words: &[u16], n: usize, t: usize) -> Turn
     }
 }
 
-// May a flit follow from a turn's channel? A channel that is free is refused before more is asked.
+// Could a turn be accepted, before one looks at the packet? Nobody follows from a free channel.
+pub fn is_owned(words: &[u16], n: usize, v: Turn) -> bool
+    requires { ⌜ length (now words) ≡ n + n + n ⌝ }
+    requires { ⌜ v .channel < n ⌝ }
+    ensures { λ b. ⌜ b ≡ owned (sections n (now (words .entry))) v ⌝ }
+{
+    if v.kind != FOLLOW {
+        return true;
+    }
+    owner_of(words, n, v.channel) != 0
+}
+
+// May a flit follow from a turn's channel?
 fn is_followed(words: &[u16], m: Mesh, v: Turn, r: Record) -> bool
     requires { ⌜ Fitting m r ⌝ }
     requires { ⌜ Memory m (now words) ⌝ }
-    requires { ⌜ v .channel < channels (m .columns) (m .rows) ⌝ }
     ensures { λ b. ⌜ b ≡ accepted (built m) (laid m (now (words .entry))) (v .packet) r 1 (v .channel) (v .direction) ⌝ }
 {
-    let n = channels_of(m.columns, m.rows);
-    if owner_of(words, n, v.channel) == 0 {
-        return false;
-    }
     if !is_channel(m.columns, m.rows, v.channel) {
         return false;
     }
@@ -109,7 +115,7 @@ fn is_followed(words: &[u16], m: Mesh, v: Turn, r: Record) -> bool
 }
 
 // Does the machine accept a turn of a packet with this record?
-fn is_accepted(words: &[u16], m: Mesh, v: Turn, r: Record) -> bool
+pub fn is_accepted(words: &[u16], m: Mesh, v: Turn, r: Record) -> bool
     requires { ⌜ Fitting m r ⌝ }
     requires { ⌜ Memory m (now words) ⌝ }
     requires { ⌜ Tryable m v ⌝ }
@@ -121,18 +127,15 @@ fn is_accepted(words: &[u16], m: Mesh, v: Turn, r: Record) -> bool
     may_move(words, m, v.packet, r, v.kind, v.channel, v.direction)
 }
 
-// Tries a turn of a packet: it is made and counted if the machine accepts it.
-pub fn attempt(words: &mut [u16], m: Mesh, v: Turn, c: Counted) -> Counted
+// Makes a turn of a packet that the machine accepts, and counts it.
+pub fn make(words: &mut [u16], m: Mesh, v: Turn, c: Counted) -> Counted
     requires { ⌜ Fitting m (c .packet) ⌝ }
     requires { ⌜ Memory m (now words) ⌝ }
-    requires { ⌜ Tryable m v ⌝ }
+    requires { ⌜ accepted (built m) (laid m (now words)) (v .packet) (c .packet) (v .kind) (v .channel) (v .direction) ≡ true ⌝ }
     requires { ⌜ c .moves + 1 < 2 ^ 32 ⌝ }
     ensures { λ r. ⌜ record { words = laid m (now (words .exit)); counted = r }
-        ≡ attempted (built m) (laid m (now (words .entry))) v c ⌝ }
+        ≡ made (built m) (laid m (now (words .entry))) v c ⌝ }
 {
-    if !is_accepted(words, m, v, c.packet) {
-        return c;
-    }
     let packet = act(words, m, v.packet, c.packet, v.kind, v.channel, v.direction);
     Counted {
         packet,
