@@ -1,50 +1,64 @@
 -- The list of counted packets as its records and its counts: by induction on the list. Assumes nothing.
 use Prim.Native.Nat.{ℕ, zero, suc, _+_, _≤_, _<_}
 use mathlib.Core.Path.{_≡_, refl, ap}
-use mathlib.Core.List.{List, [], _∷_}
+use mathlib.Core.List.{List, [], _∷_, map}
 use native.Mathlib.Omega.{arith}
-use lib.ListN.{length, set, getD}
-use Rattle.wormhole.specs.declared.records.Record.{Record}
+use lib.ListN.{length, set, getD, replicate}
 use Rattle.wormhole.specs.Memory.{none}
 use Rattle.report.specs.declared.turns.Counted.{Counted}
 use Rattle.report.specs.Sweeps.{sum}
 use Rattle.report.specs.Coded.{recs, counts}
 
--- ---- the records
+-- ---- a field of all
+module _ {A : Type 0} (f : Counted → A) where
+  length-map : (cs : List Counted) → length (map f cs) ≡ length cs
+  length-map [] = refl
+  length-map (c ∷ cs) = ap suc (length-map cs)
+
+  map-set : (cs : List Counted) (i : ℕ) (c : Counted) → map f (set cs i c) ≡ set (map f cs) i (f c)
+  map-set [] i c = refl
+  map-set (d ∷ cs) zero c = refl
+  map-set (d ∷ cs) (suc i) c = ap (λ (l : List A). f d ∷ l) (map-set cs i c)
+
+  map-at : (cs : List Counted) (i : ℕ) (z : A) (d : Counted) → i < length cs → getD (map f cs) i z ≡ f (getD cs i d)
+  map-at [] i z d l = absurd (omega (arith, l))
+  map-at (c ∷ cs) zero z d l = refl
+  map-at (c ∷ cs) (suc i) z d l = map-at cs i z d (omega (arith, l))
+
+  map-all : (n : ℕ) (c : Counted) → map f (replicate n c) ≡ replicate n (f c)
+  map-all zero c = refl
+  map-all (suc n) c = ap (λ (l : List A). f c ∷ l) (map-all n c)
+
+-- ---- the records, and the counts
 pub length-recs : (cs : List Counted) → length (recs cs) ≡ length cs
 unfolding recs
-length-recs [] = refl
-length-recs (c ∷ cs) = ap suc (length-recs cs)
+length-recs cs = length-map (λ (c : Counted). c .packet) cs
 
-pub recs-set : (cs : List Counted) (i : ℕ) (c : Counted) → recs (set cs i c) ≡ set (recs cs) i (c .packet)
-unfolding recs
-recs-set [] i c = refl
-recs-set (d ∷ cs) zero c = refl
-recs-set (d ∷ cs) (suc i) c = ap (λ (rs : List Record). d .packet ∷ rs) (recs-set cs i c)
+module _ (cs : List Counted) (i : ℕ) where
+  pub recs-set : (c : Counted) → recs (set cs i c) ≡ set (recs cs) i (c .packet)
+  unfolding recs
+  recs-set c = map-set (λ (d : Counted). d .packet) cs i c
 
-pub recs-at : (cs : List Counted) (i : ℕ) (d : Counted) → i < length cs → getD (recs cs) i none ≡ getD cs i d .packet
-unfolding recs
-recs-at [] i d l = absurd (omega (arith, l))
-recs-at (c ∷ cs) zero d l = refl
-recs-at (c ∷ cs) (suc i) d l = recs-at cs i d (omega (arith, l))
+  pub counts-set : (c : Counted) → counts (set cs i c) ≡ set (counts cs) i (c .moves)
+  unfolding counts
+  counts-set c = map-set (λ (d : Counted). d .moves) cs i c
 
--- ---- the counts
-pub length-counts : (cs : List Counted) → length (counts cs) ≡ length cs
-unfolding counts
-length-counts [] = refl
-length-counts (c ∷ cs) = ap suc (length-counts cs)
+  pub recs-at : (d : Counted) → i < length cs → getD (recs cs) i none ≡ getD cs i d .packet
+  unfolding recs
+  recs-at d l = map-at (λ (c : Counted). c .packet) cs i none d l
 
-pub counts-set : (cs : List Counted) (i : ℕ) (c : Counted) → counts (set cs i c) ≡ set (counts cs) i (c .moves)
-unfolding counts
-counts-set [] i c = refl
-counts-set (d ∷ cs) zero c = refl
-counts-set (d ∷ cs) (suc i) c = ap (λ (ns : List ℕ). d .moves ∷ ns) (counts-set cs i c)
+  pub counts-at : (d : Counted) → i < length cs → getD (counts cs) i 0 ≡ getD cs i d .moves
+  unfolding counts
+  counts-at d l = map-at (λ (c : Counted). c .moves) cs i 0 d l
 
-pub counts-at : (cs : List Counted) (i : ℕ) (d : Counted) → i < length cs → getD (counts cs) i 0 ≡ getD cs i d .moves
-unfolding counts
-counts-at [] i d l = absurd (omega (arith, l))
-counts-at (c ∷ cs) zero d l = refl
-counts-at (c ∷ cs) (suc i) d l = counts-at cs i d (omega (arith, l))
+module _ (n : ℕ) (c : Counted) where
+  pub recs-all : recs (replicate n c) ≡ replicate n (c .packet)
+  unfolding recs
+  recs-all = map-all (λ (d : Counted). d .packet) n c
+
+  pub counts-all : counts (replicate n c) ≡ replicate n (c .moves)
+  unfolding counts
+  counts-all = map-all (λ (d : Counted). d .moves) n c
 
 -- ---- their sum
 -- one count is at most the sum

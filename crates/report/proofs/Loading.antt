@@ -15,20 +15,9 @@ use Rattle.traffic.proofs.Heads.{length-packets}
 use Rattle.traffic.proofs.Storing.{stored-all}
 use Rattle.report.specs.declared.turns.Counted.{Counted}
 use Rattle.report.specs.Coded.{recs, counts}
-use Rattle.report.proofs.Counting.{recs-set, counts-set}
+use Rattle.report.proofs.Counting.{recs-set, counts-set, recs-all, counts-all}
 
 -- ---- before the loop
--- copies of a packet
-recs-all : (n : ℕ) (c : Counted) → recs (replicate n c) ≡ replicate n (c .packet)
-unfolding recs
-recs-all zero c = refl
-recs-all (suc n) c = ap (λ (rs : List Record). c .packet ∷ rs) (recs-all n c)
-
-counts-all : (n : ℕ) (c : Counted) → counts (replicate n c) ≡ replicate n (c .moves)
-unfolding counts
-counts-all zero c = refl
-counts-all (suc n) c = ap (λ (ns : List ℕ). c .moves ∷ ns) (counts-all n c)
-
 module _ (ps : List Record) where
   pub none-loaded : {r : Record} → r ≡ none → recs (replicate 64 (record { packet = r; moves = 0 })) ≡ stored ps (replicate 64 none) 0
   unfolding stored

@@ -2,7 +2,7 @@
 use Prim.Native.Nat.{ℕ, suc, _≤_, _<_}
 use mathlib.Core.Path.{_≡_}
 use mathlib.Core.Bool.{Bool, not, _&&_, _||_}
-use mathlib.Core.List.{List, [], _∷_, _++_}
+use mathlib.Core.List.{List, map, _++_}
 use lib.Dec.{eqb}
 use lib.ListN.{length, take, drop}
 use Rattle.route.specs.declared.meshes.Mesh.{Mesh}
@@ -22,13 +22,11 @@ use Rattle.report.specs.Calls.{need, reading, drain, sheet}
 
 -- the records of packets that are counted
 unfoldable pub recs : List Counted → List Record
-recs [] = []
-recs (c ∷ cs) = c .packet ∷ recs cs
+recs cs = map (λ (c : Counted). c .packet) cs
 
 -- and their counts
 unfoldable pub counts : List Counted → List ℕ
-counts [] = []
-counts (c ∷ cs) = c .moves ∷ counts cs
+counts cs = map (λ (c : Counted). c .moves) cs
 
 -- words and counted packets, as they drain
 abbrev pub tally : List ℕ → List Counted → Tally
