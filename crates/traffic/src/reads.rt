@@ -53,10 +53,10 @@ fn judge(list: &[u8], words: &mut [u16], count: usize) -> ListRead
 pub fn served_count(refusal: u8, count: usize) -> usize
     ensures { λ n. ⌜ n ≡ served-count refusal count ⌝ }
 {
-    if refusal != 0 {
-        return 0;
+    if refusal == 0 {
+        return count;
     }
-    count
+    0
 }
 
 // Makes the mesh of a list empty but for the list's packets, each at its source.

@@ -1,4 +1,8 @@
 -- Each return by the tests before it. Assumes nothing.
+use Prim.Native.Nat.{_≤_}
+use mathlib.Core.Path.{_≡_}
+use native.Mathlib.Omega.{arith}
+use lib.ListN.{length}
 use borrow.Author.Needs.{needs}
 use Rattle.traffic.proofs.Refusals.{is-list, two-bytes, read-length, read-mesh, read-spare, read-size, read-packet, read-full, read-good}
 use Rattle.traffic.proofs.lists.bad_read.Statement.{statement}
@@ -20,19 +24,19 @@ returns-2 : tie.Need-returns-2
 returns-2 c = search read-mesh
 
 returns-3 : tie.Need-returns-3
-returns-3 c = search read-spare
+returns-3 c = let off : c .before .before .before .before .lead-of .result .spare ≡ 0 → ⊥ = omega arith in search read-spare
 
 bad-size-requires : tie.Need-bad-size-requires
 bad-size-requires c κs = search needs
 
 returns-4 : tie.Need-returns-4
-returns-4 c = search read-size
+returns-4 c = let on : c .before .before .before .before .before .before .lead-of .result .spare ≡ 0 = omega arith in search read-size
 
 sub-bad-headers : tie.Need-sub-bad-headers
-sub-bad-headers c = search two-bytes
+sub-bad-headers c = let long : 2 ≤ length (c .before .before .before .before .before .before .before .before .before .before .args .list .now) = search two-bytes in omega arith
 
 part-bad-headers-start : tie.Need-part-bad-headers-start
-part-bad-headers-start c = search two-bytes
+part-bad-headers-start c = let long : 2 ≤ length (c .before .before .before .before .before .before .before .before .before .before .args .list .now) = search two-bytes in omega arith
 
 part-bad-headers-end : tie.Need-part-bad-headers-end
 part-bad-headers-end c = search needs
@@ -41,16 +45,16 @@ bad-headers-requires : tie.Need-bad-headers-requires
 bad-headers-requires c κs = search needs
 
 returns-5 : tie.Need-returns-5
-returns-5 c = search read-packet
+returns-5 c = let on : c .before .before .before .before .before .before .before .before .before .lead-of .result .spare ≡ 0 = omega arith in search read-packet
 
 packets-of-requires : tie.Need-packets-of-requires
 packets-of-requires c κs = search is-list
 
 returns-6 : tie.Need-returns-6
-returns-6 c = search read-full
+returns-6 c = let on : c .before .before .before .before .before .before .before .before .before .before .before .lead-of .result .spare ≡ 0 = omega arith in search read-full
 
 returns-7 : tie.Need-returns-7
-returns-7 c = search read-good
+returns-7 c = let on : c .before .before .before .before .before .before .before .before .before .before .before .lead-of .result .spare ≡ 0 = omega arith in search read-good
 
 pub bad-read-spec : {M : Type 1} → statement M
 bad-read-spec =

@@ -1,6 +1,6 @@
 -- A node of a mesh of 16 by 16 has a column and a row below 16. Assumes nothing.
-use Prim.Native.Nat.{ℕ, zero, suc, _*_, _≤_, _<_}
-use mathlib.Core.Path.{_≡_, refl}
+use Prim.Native.Nat.{ℕ, zero, suc, _*_, _/_, _%_, _≤_, _<_}
+use mathlib.Core.Path.{_≡_, ap}
 use native.Mathlib.Nat.{mod-lt, div-lt-iff-lt-mul, mul-le-mul-left}
 use native.Mathlib.Omega.{arith}
 use Rattle.route.specs.declared.places.Place.{Place}
@@ -25,6 +25,10 @@ module _ (C R k : ℕ) (hc : C ≤ 16) (hr : R ≤ 16) (h : k < C * R) where
   low : {p : Place} → p ≡ place-of C k → (p .column .0 < 16) × (p .row .0 < 16)
   low e = rw e (omega (arith, mod-lt k {m = C} some), div-lt-iff-lt-mul {k = C} some .1 below)
 
+-- its column and its row
+digits : (C k : ℕ) {p : Place} → p ≡ place-of C k → (p .column .0 ≡ k % C) × (p .row .0 ≡ k / C)
+digits C k e = (ap (λ (p : Place). p .column .0) e, ap (λ (p : Place). p .row .0) e)
+
 place-of-requires : tie.Need-place-of-requires
 place-of-requires c κs = (search some, search wide)
 
@@ -39,7 +43,9 @@ add-result c = let x = c .before .before .before .args in
     omega arith
 
 returns : tie.Need-returns
-returns c = rw (c .before .before .place-of .ensures) refl
+returns c = let x = c .before .before .before .args in
+    let e = digits (x .columns) (x .node) (c .before .before .place-of .ensures) in
+    omega arith
 
 pub node-byte-spec : {M : Type 1} → statement M
 node-byte-spec = tie.close (tie.spec place-of-requires mul-result add-result returns)
