@@ -47,7 +47,8 @@ pub record Reported : Type 0 where
 abbrev pub reported : List ℕ → List ℕ → List ℕ → Reported
 reported text w out = record { answer = written 0 (length text); words = w; bytes = over text out }
 
--- of a list that is read into the first words that it needs; of a refused one the sheet is its refusal, and words stay. Fewer than 1,024 bytes are refused by 7
+-- of a list that is read into the first words that it needs; of a refused one the sheet is its refusal, and words stay. Fewer than 1,024
+-- bytes are refused by 7
 unfoldable pub report : List ℕ → List ℕ → List ℕ → Reported
 report bs w out =
     let part = take (need bs) w in

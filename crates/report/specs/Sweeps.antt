@@ -1,4 +1,4 @@
--- How a list that was read drains: sweeps over all moves that there could be, each move made if the machine accepts it, until a sweep finds none.
+-- How a list that was read drains: sweeps over all moves that there could be, each made if the machine accepts it, until a sweep finds none.
 -- Assumes nothing.
 use Prim.Native.Nat.{ℕ, zero, suc, _+_, _-_, _*_, _/_, _%_}
 use mathlib.Core.Bool.{Bool}

@@ -117,15 +117,15 @@ pub fn drain(list: &[u8], words: &mut [u16]) -> [Counted; 64]
     let lead = lead_of(list);
     zero(words);
     let mut all = load(list, lead.columns, lead.rows);
-    let mut turns: u32 = 0;
-    while turns < MOST_SWEEPS {
+    let mut sweeps: u32 = 0;
+    while sweeps < MOST_SWEEPS {
         let before = total_of(all);
         let swept = sweep(words, lead.columns, lead.rows, lead.rule, all);
         if total_of(swept) == before {
             return swept;
         }
         all = swept;
-        turns += 1;
+        sweeps += 1;
     }
     all
 }

@@ -59,7 +59,7 @@ fn own_turn(t: usize) -> Turn
     }
 }
 
-// The record that a channel's owner names, that of record 0 where it is free.
+// The record that a channel's owner names, record 0 where the channel is free.
 fn holder(owner: u16) -> u8
     requires { ⌜ owner < 257 ⌝ }
     ensures { λ i. ⌜ i ≡ owner - 1 ⌝ }

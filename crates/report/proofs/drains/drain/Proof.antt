@@ -12,14 +12,14 @@ use Rattle.report.proofs.drains.drain.Statement.{statement}
 use Rattle.report.proofs.drains.drain.Tie as tie
 
 abbrev Inv-loop : tie.InvT-loop
-Inv-loop list words₀ lead all₀ turns₀ words all turns =
-    (turns ≤ 396801)
+Inv-loop list words₀ lead all₀ sweeps₀ words all sweeps =
+    (sweeps ≤ 396801)
     × (Reached (lead .columns) (lead .rows) (lead .rule) (tally words all)
     × ((length words ≡ length words₀)
-    × (drained (lead .columns) (lead .rows) (lead .rule) (396801 - turns) (tally words all) ≡ drained (lead .columns) (lead .rows) (lead .rule) 396801 (tally words₀ all₀))))
+    × (drained (lead .columns) (lead .rows) (lead .rule) (396801 - sweeps) (tally words all) ≡ drained (lead .columns) (lead .rows) (lead .rule) 396801 (tally words₀ all₀))))
 
 abbrev μ-loop : tie.MeasureT-loop
-μ-loop list words₀ lead all₀ turns₀ words all turns = 396801 - turns
+μ-loop list words₀ lead all₀ sweeps₀ words all sweeps = 396801 - sweeps
 
 lead-of-requires : tie.Need-lead-of-requires Inv-loop μ-loop
 lead-of-requires c κs = search two-bytes
@@ -66,10 +66,10 @@ returns c =
     let s = c .before .before .before .before .sweep in
     let S = tally (l .words) (l .all) in
     ends (x .args .list .now) (x .args .words .now) (x .pre) (y .result) (y .ensures) (z .last .0) (p .result) (z .ensures) (p .ensures .0) (p .ensures .1)
-    (settled (m .columns) (m .rows) (m .rule) S (l .inv .1 .0) (s .last .0) (s .result) (s .ensures) (l .turns) (omega arith) (c .before .before .before .before .before .before .total-of .ensures) (c .before .total-of2 .ensures) (omega arith) ∙ l .inv .1 .1 .1)
+    (settled (m .columns) (m .rows) (m .rule) S (l .inv .1 .0) (s .last .0) (s .result) (s .ensures) (l .sweeps) (omega arith) (c .before .before .before .before .before .before .total-of .ensures) (c .before .total-of2 .ensures) (omega arith) ∙ l .inv .1 .1 .1)
 
-add-turns : tie.Need-add-turns Inv-loop μ-loop
-add-turns c = search needs
+add-sweeps : tie.Need-add-sweeps Inv-loop μ-loop
+add-sweeps c = search needs
 
 loop-less : tie.Need-loop-less Inv-loop μ-loop
 loop-less c = search needs
@@ -85,7 +85,7 @@ loop-again c =
         reached-sweep (m .columns) (m .rows) (m .rule) S (l .inv .1 .0) (s .last .0) (s .result) (s .ensures),
         (
           long-swept (m .columns) (m .rows) (m .rule) S (l .inv .1 .0) (s .last .0) (s .result) (s .ensures) ∙ l .inv .1 .1 .0,
-          unsettled (m .columns) (m .rows) (m .rule) S (l .inv .1 .0) (s .last .0) (s .result) (s .ensures) (l .turns) (omega arith) (c .before .before .before .before .before .before .total-of .ensures) (c .before .total-of2 .ensures) (omega arith) ∙ l .inv .1 .1 .1,
+          unsettled (m .columns) (m .rows) (m .rule) S (l .inv .1 .0) (s .last .0) (s .result) (s .ensures) (l .sweeps) (omega arith) (c .before .before .before .before .before .before .total-of .ensures) (c .before .total-of2 .ensures) (omega arith) ∙ l .inv .1 .1 .1,
         ),
       ),
     )
@@ -102,7 +102,7 @@ returns-2 c =
     let l = c .before .loop in
     let m = y .result in
     ends (x .args .list .now) (x .args .words .now) (x .pre) (y .result) (y .ensures) (z .last .0) (p .result) (z .ensures) (p .ensures .0) (p .ensures .1)
-    (run-out (m .columns) (m .rows) (m .rule) (tally (l .words) (l .all)) (l .turns) (omega arith) ∙ l .inv .1 .1 .1)
+    (run-out (m .columns) (m .rows) (m .rule) (tally (l .words) (l .all)) (l .sweeps) (omega arith) ∙ l .inv .1 .1 .1)
 
 pub drain-spec : {M : Type 1} → statement M
 drain-spec =
@@ -119,7 +119,7 @@ drain-spec =
     total-of-requires-2
     same-length
     returns
-    add-turns
+    add-sweeps
     loop-less
     loop-again
     same-length-2
