@@ -17,11 +17,11 @@ use Rattle.wormhole.specs.Steps.{may, act, can-follow, may-follow}
 use Rattle.wormhole.specs.Calls.{move}
 use Rattle.wormhole.specs.Drains.{Lent, Move, moves}
 use Rattle.wormhole.proofs.Draining.Answers.{Moved, moved}
-use Rattle.report.specs.Sweeps.{Tally, sum, own, turn, tried, turns, sweep}
+use Rattle.report.specs.Sweeps.{Tally, sum, own-turn, turn, tried, turns, sweep}
 use Rattle.report.proofs.Tracing.{refused, grows, traced}
 
 -- a record's turn, by its record and its place among the six
-own-at : (i j : ℕ) → j < 6 → own (6 * i + j) ≡ record { packet = i; kind = pick (ltb j 4) 0 (j - 2); channel = 0; direction = j }
+own-at : (i j : ℕ) → j < 6 → own-turn (6 * i + j) ≡ record { packet = i; kind = pick (ltb j 4) 0 (j - 2); channel = 0; direction = j }
 own-at i j few =
     let p : (6 * i + j) / 6 ≡ i = omega arith in
     let q : (6 * i + j) % 6 ≡ j = omega arith in
@@ -84,9 +84,9 @@ module _ (C R rule : ℕ) where
     turned : (t : ℕ) (v : Move) → asked C R M t ≡ v → t < 6 * length (M .records) + channels C R → moves C R rule M v .answer ≡ 0 → Found
     turned t v e low a = (t, low, subst (λ (u : Move). moves C R rule M u .answer ≡ 0) (sym e) a)
 
-    own-turn : (i j : ℕ) → i < length (M .records) → j < 6
+    own-found : (i j : ℕ) → i < length (M .records) → j < 6
         → move C R rule (M .words) (M .records) i (pick (ltb j 4) 0 (j - 2)) 0 j .answer ≡ 0 → Found
-    own-turn i j low few a =
+    own-found i j low few a =
         turned (6 * i + j) _ (rw (lt-ltb (6 * i + j) (6 * length (M .records)) (omega arith)) (own-at i j few)) (omega arith) a
 
     found : (i kind k d : ℕ) → move C R rule (M .words) (M .records) i kind k d .answer ≡ 0
@@ -94,7 +94,7 @@ module _ (C R rule : ℕ) where
     unfolding move may act may-follow
     found i zero k d a A =
         let way : d < 4 = ltb-yes (A .known) in
-        own-turn i d (A .low) (omega arith) (rw (lt-ltb d 4 way) a)
+        own-found i d (A .low) (omega arith) (rw (lt-ltb d 4 way) a)
     found i (suc zero) k d a A =
         let s = sections (channels C R) (M .words) in
         let e : owner-of s k ≡ i + 1 = eqb-yes (and-yes (eqb (owner-of s k) (i + 1)) (can-follow (net C R rule) s k) (A .may) .0) in
@@ -103,8 +103,8 @@ module _ (C R rule : ℕ) where
         let q : owner-of s k - 1 ≡ i = omega (arith, e) in
         turned (t + k) (record { packet = i; kind = 1; channel = k; direction = 0 }) (rw (le-ltb (t + k) t (omega arith), p, q) refl)
         (omega (arith, owned-low (channels C R) (M .words) k i e)) a
-    found i (suc (suc zero)) k d a A = own-turn i 4 (A .low) (omega arith) a
-    found i (suc (suc (suc zero))) k d a A = own-turn i 5 (A .low) (omega arith) a
+    found i (suc (suc zero)) k d a A = own-found i 4 (A .low) (omega arith) a
+    found i (suc (suc (suc zero))) k d a A = own-found i 5 (A .low) (omega arith) a
     found i (suc (suc (suc (suc kind)))) k d a A = absurd (A .known)
 
   -- ---- a sweep that accepts nothing: it leaves everything, and every move is refused

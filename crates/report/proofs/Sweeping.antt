@@ -19,8 +19,8 @@ use Rattle.wormhole.specs.Drains.{Move}
 use Rattle.wormhole.specs.Coded.{Fitting, Memory, built, laid}
 use Rattle.report.specs.declared.turns.Counted.{Counted}
 use Rattle.report.specs.declared.turns.Turn.{Turn}
-use Rattle.report.specs.Sweeps.{Tally, own, owners, turn, tried, turns, sweep}
-use Rattle.report.specs.Coded.{tally, move-of, owned, accepted, made, Tryable, Reached}
+use Rattle.report.specs.Sweeps.{Tally, own-turn, owner-turn, turn, tried, turns, sweep}
+use Rattle.report.specs.Coded.{tally, move-of, owned, accepted, done, Tryable, Reached}
 use Rattle.report.proofs.Counting.{length-recs, recs-at, counts-at}
 use Rattle.report.proofs.Reaching.{long-words, many, owner-few, memory-reached, record-reached, few-each, reached-turns}
 use Rattle.report.proofs.Trying.{no-turn, one-turn}
@@ -34,7 +34,7 @@ record Turned (n : ℕ) (v : Move) : Type 0 where
   ways : v .kind ≡ 0 → v .direction < 4
   numbers : v .channel < n
 
-own-turned : (n t : ℕ) → 0 < n → t < 384 → Turned n (own t)
+own-turned : (n t : ℕ) → 0 < n → t < 384 → Turned n (own-turn t)
 own-turned n t p l = by (ltb (t % 6) 4) (λ e. lt-of (t % 6) e) (λ e. ge-of (t % 6) e)
   where
     lt-of : (j : ℕ) → ltb j 4 ≡ true → j < 4
@@ -49,7 +49,7 @@ own-turned n t p l = by (ltb (t % 6) 4) (λ e. lt-of (t % 6) e) (λ e. ge-of (t 
     by false f g = record { packets = omega (arith, l); kinds = omega arith; ways = λ e. absurd (omega (arith, e, g refl)); numbers = p }
 
 turned : (n : ℕ) (w : List ℕ) (t : ℕ) → 0 < n → t < 384 + n → owner-of (sections n w) (t - 384) ≤ 64 → (b : Bool) → (b ≡ true → t < 384) → (b ≡ false → 384 ≤ t)
-    → Turned n (pick b (own t) (owners n w (t - 384)))
+    → Turned n (pick b (own-turn t) (owner-turn n w (t - 384)))
 turned n w t p l o true f g = own-turned n t p (f refl)
 turned n w t p l o false f g =
     record { packets = omega (arith, o); kinds = omega arith; ways = λ e. absurd (omega (arith, e)); numbers = omega (arith, l, g refl) }
@@ -119,7 +119,7 @@ module _ (C R rule : ℕ) (w₀ : List ℕ) (cs₀ : List Counted) (H : Reached 
           pub turn-kept : b ≡ false → tally w cs ≡ turns C R rule (tally w₀ cs₀) (t + 1)
           turn-kept h = next (no-turn C R rule w cs here v low d m em eb h)
 
-          pub turn-made : b ≡ true → (w′ : List ℕ) (q : Counted) → record { words = laid m w′; counted = q } ≡ made (built m) (laid m w) v (getD cs (v .packet) d)
+          pub turn-made : b ≡ true → (w′ : List ℕ) (q : Counted) → record { words = laid m w′; counted = q } ≡ done (built m) (laid m w) v (getD cs (v .packet) d)
               → tally w′ (set cs (v .packet) q) ≡ turns C R rule (tally w₀ cs₀) (t + 1)
           turn-made h w′ q a = next (one-turn C R rule w cs here v low d m em eb h w′ q a)
 

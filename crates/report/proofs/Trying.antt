@@ -22,7 +22,7 @@ use Rattle.wormhole.proofs.Draining.Answers as answers
 use Rattle.report.specs.declared.turns.Counted.{Counted}
 use Rattle.report.specs.declared.turns.Turn.{Turn}
 use Rattle.report.specs.Sweeps.{Tally, tried}
-use Rattle.report.specs.Coded.{recs, counts, tally, move-of, accepted, Attempt, made, Reached}
+use Rattle.report.specs.Coded.{recs, counts, tally, move-of, accepted, Attempt, done, Reached}
 use Rattle.report.proofs.Counting.{length-recs, recs-set, recs-at, counts-set, counts-at}
 use Rattle.report.proofs.Reaching.{many, sized, fit}
 use Rattle.report.proofs.Tracing.{refused}
@@ -88,13 +88,13 @@ module _ (C R rule : ℕ) (w : List ℕ) (cs : List Counted) (H : Reached C R ru
         sym (refused C R rule S (move-of v) (answers-no C R rule S H v few (λ t. subst T off t)))
 
     -- what is made of a packet is what the machine makes of all
-    pub one-turn : b ≡ true → (w′ : List ℕ) (q : Counted) → record { words = laid m w′; counted = q } ≡ made (built m) (laid m w) v c
+    pub one-turn : b ≡ true → (w′ : List ℕ) (q : Counted) → record { words = laid m w′; counted = q } ≡ done (built m) (laid m w) v c
         → tally w′ (set cs (v .packet) q) ≡ tried C R rule S (move-of v)
-    unfolding tried made
+    unfolding tried done
     one-turn h w′ q e =
         let ec : m .columns ≡ C = ap (λ (n : Mesh). n .columns) em in
         let er : m .rows ≡ R = ap (λ (n : Mesh). n .rows) em in
-        let f : record { words = sections (channels C R) w′; counted = q } ≡ made (net C R rule) s v c = rw (em, ec, er) at e in
+        let f : record { words = sections (channels C R) w′; counted = q } ≡ done (net C R rule) s v c = rw (em, ec, er) at e in
         let z = answers-yes C R rule S H v few (subst T (sym (same-tests ∙ h)) tt) in
         let g = answers.moved C R rule w (recs cs) (v .packet) (v .kind) (v .channel) (v .direction) z in
         let o = move C R rule w (recs cs) (v .packet) (v .kind) (v .channel) (v .direction) in

@@ -19,18 +19,18 @@ use Rattle.wormhole.proofs.Every.{both}
 use Rattle.wormhole.proofs.AnyRule.{same-channels}
 use Rattle.report.specs.declared.turns.Counted.{Counted}
 use Rattle.report.specs.declared.turns.Turn.{Turn}
-use Rattle.report.specs.Sweeps.{own, turn}
-use Rattle.report.specs.Coded.{owned, accepted, made}
+use Rattle.report.specs.Sweeps.{own-turn, turn}
+use Rattle.report.specs.Coded.{owned, accepted, done}
 
 -- ---- which move
-pub lead-turn : (t : ℕ) → t % 6 < 4 → record { packet = t / 6; kind = 0; channel = 0; direction = t % 6 } ≡ own t
+pub lead-turn : (t : ℕ) → t % 6 < 4 → record { packet = t / 6; kind = 0; channel = 0; direction = t % 6 } ≡ own-turn t
 lead-turn t l = rw (lt-ltb (t % 6) 4 l) refl
 
-pub other-turn : (t : ℕ) → 4 ≤ t % 6 → record { packet = t / 6; kind = t % 6 - 2; channel = 0; direction = t % 6 } ≡ own t
+pub other-turn : (t : ℕ) → 4 ≤ t % 6 → record { packet = t / 6; kind = t % 6 - 2; channel = 0; direction = t % 6 } ≡ own-turn t
 other-turn t l = rw (le-ltb (t % 6) 4 l) refl
 
 module _ (n : ℕ) (w : List ℕ) (t : ℕ) where
-  pub own-first : t < 384 → {v : Move} → v ≡ own t → v ≡ turn 64 n w t
+  pub own-first : t < 384 → {v : Move} → v ≡ own-turn t → v ≡ turn 64 n w t
   own-first l e = rw (lt-ltb t 384 l) e
 
   pub owner-then : 384 ≤ t → {o i : ℕ} → o ≡ owner-of (sections n w) (t - 384) → i ≡ o - 1 → record { packet = i; kind = 1; channel = t - 384; direction = 0 } ≡ turn 64 n w t
@@ -103,8 +103,8 @@ module _ (N : Net) (s : Sections) (v : Turn) (c : Counted) (e : accepted N s (v 
   make-may = able .1
 
 pub made-counted : (N : Net) (s : Sections) (v : Turn) (c : Counted) (t : Sections) (q : Record) (k : ℕ) → stepped t q ≡ act N s (v .packet) (c .packet) (v .kind) (v .channel) (v .direction)
-    → k ≡ c .moves + 1 → record { words = t; counted = record { packet = q; moves = k } } ≡ made N s v c
-unfolding made
+    → k ≡ c .moves + 1 → record { words = t; counted = record { packet = q; moves = k } } ≡ done N s v c
+unfolding done
 made-counted N s v c t q k f g =
     let one : k ≡ suc (c .moves) = omega (arith, g) in
     λ i. record { words = f i .words; counted = record { packet = f i .packet; moves = one i } }

@@ -11,7 +11,7 @@ use Rattle.wormhole.specs.declared.records.Record.{Record}
 use Rattle.wormhole.specs.Memory.{Net, Sections, owner-of}
 use Rattle.wormhole.specs.Steps.{known, act}
 use Rattle.wormhole.specs.Calls.{allowed}
-use Rattle.wormhole.specs.Drains.{Move, Call, now, work, made as all-made}
+use Rattle.wormhole.specs.Drains.{Move, Call, now, work, made}
 use Rattle.route.specs.Served.{unless}
 use Rattle.traffic.specs.Coded.{Page, page, puts}
 use Rattle.report.specs.declared.turns.Counted.{Counted}
@@ -50,8 +50,8 @@ pub record Attempt : Type 0 where
   pub counted : Counted
 
 -- a turn that is made on them and counted
-unfoldable pub made : Net → Sections → Turn → Counted → Attempt
-made N s v c =
+unfoldable pub done : Net → Sections → Turn → Counted → Attempt
+done N s v c =
     let after = act N s (v .packet) (c .packet) (v .kind) (v .channel) (v .direction) in
     record { words = after .words; counted = record { packet = after .packet; moves = suc (c .moves) } }
 
@@ -72,7 +72,7 @@ pub record Reached (C R rule : ℕ) (S : Tally) : Type 0 where
   pub there : S .lent ≡ now C R rule 64 calls
   pub few : work C R rule 64 calls ≤ 396800
   pub long : length (S .made) ≡ 64
-  pub low : sum (S .made) ≤ all-made C R rule 64 calls
+  pub low : sum (S .made) ≤ made C R rule 64 calls
 
 -- the words, and the page of a sheet
 pub record Printed : Type 0 where

@@ -27,16 +27,16 @@ unfoldable pub idle : List Record → Bool
 idle rs = every (λ r. eqb (r .live) 0) rs
 
 -- six turns for each record: leads in the four directions, a feed, an eat
-abbrev pub own : ℕ → Move
-own t = let j = t % 6 in record { packet = t / 6; kind = pick (ltb j 4) 0 (j - 2); channel = 0; direction = j }
+abbrev pub own-turn : ℕ → Move
+own-turn t = let j = t % 6 in record { packet = t / 6; kind = pick (ltb j 4) 0 (j - 2); channel = 0; direction = j }
 
 -- one turn for each of n numbers of channels: the follow of its owner; that of a free channel is refused, whoever tries it
-abbrev pub owners : ℕ → List ℕ → ℕ → Move
-owners n w k = record { packet = owner-of (sections n w) k - 1; kind = 1; channel = k; direction = 0 }
+abbrev pub owner-turn : ℕ → List ℕ → ℕ → Move
+owner-turn n w k = record { packet = owner-of (sections n w) k - 1; kind = 1; channel = k; direction = 0 }
 
 -- the move that is tried at turn t, with so many records
 abbrev pub turn : ℕ → ℕ → List ℕ → ℕ → Move
-turn count n w t = pick (ltb t (6 * count)) (own t) (owners n w (t - 6 * count))
+turn count n w t = pick (ltb t (6 * count)) (own-turn t) (owner-turn n w (t - 6 * count))
 
 module _ (C R rule : ℕ) where
   -- a move is tried: made and counted if it is accepted

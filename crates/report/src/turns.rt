@@ -13,8 +13,8 @@ ghost use Prim.Native.Nat.{_+_, _-_, _<_, _^_};
 ghost use lib.ListN.{length};
 ghost use Rattle.wormhole.specs.Memory.{sections, owner-of};
 ghost use Rattle.wormhole.specs.Coded.{Fitting, Memory, built, laid};
-ghost use Rattle.report.specs.Sweeps.{own, turn};
-ghost use Rattle.report.specs.Coded.{owned, accepted, made, Tryable, move-of};
+ghost use Rattle.report.specs.Sweeps.{own-turn, turn};
+ghost use Rattle.report.specs.Coded.{owned, accepted, done, Tryable, move-of};
 
 // The records of a report.
 pub const RECORDS: usize = 64;
@@ -39,7 +39,7 @@ pub struct Turn {
 // A turn of a record.
 fn own_turn(t: usize) -> Turn
     requires { ⌜ t < 384 ⌝ }
-    ensures { λ v. ⌜ move-of v ≡ own t ⌝ }
+    ensures { λ v. ⌜ move-of v ≡ own-turn t ⌝ }
 {
     let j = (t % OWN_TURNS) as u8;
     let packet = (t / OWN_TURNS) as u8;
@@ -134,7 +134,7 @@ pub fn make(words: &mut [u16], m: Mesh, v: Turn, c: Counted) -> Counted
     requires { ⌜ accepted (built m) (laid m (now words)) (v .packet) (c .packet) (v .kind) (v .channel) (v .direction) ≡ true ⌝ }
     requires { ⌜ c .moves + 1 < 2 ^ 32 ⌝ }
     ensures { λ r. ⌜ record { words = laid m (now (words .exit)); counted = r }
-        ≡ made (built m) (laid m (now (words .entry))) v c ⌝ }
+        ≡ done (built m) (laid m (now (words .entry))) v c ⌝ }
 {
     let packet = act(words, m, v.packet, c.packet, v.kind, v.channel, v.direction);
     Counted {

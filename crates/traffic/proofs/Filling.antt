@@ -10,15 +10,15 @@ use Rattle.wormhole.specs.declared.records.Record.{Record}
 use Rattle.wormhole.specs.Memory.{none}
 use Rattle.wormhole.specs.Calls.{lowest}
 use Rattle.traffic.specs.declared.headers.Header.{Header}
-use Rattle.traffic.specs.Lists.{packets, offered}
+use Rattle.traffic.specs.Lists.{packets, at-source}
 use Rattle.traffic.specs.Calls.{filled}
 
 -- ---- packets
 -- one header more
-pub packets-last : (C : ℕ) (hs : List Header) (h : Header) → packets C (hs ++ (h ∷ [])) ≡ packets C hs ++ (offered C h ∷ [])
+pub packets-last : (C : ℕ) (hs : List Header) (h : Header) → packets C (hs ++ (h ∷ [])) ≡ packets C hs ++ (at-source C h ∷ [])
 unfolding packets
 packets-last C [] h = refl
-packets-last C (i ∷ hs) h = ap (λ (l : List Record). offered C i ∷ l) (packets-last C hs h)
+packets-last C (i ∷ hs) h = ap (λ (l : List Record). at-source C i ∷ l) (packets-last C hs h)
 
 -- none of them is empty
 pub lowest-is : (C : ℕ) (hs : List Header) (rs : List Record) → lowest (packets C hs ++ (none ∷ rs)) ≡ length hs

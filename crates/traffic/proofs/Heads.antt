@@ -19,7 +19,7 @@ use Rattle.wormhole.specs.Memory.{none, fresh}
 use Rattle.wormhole.specs.Range.{flits-served}
 use Rattle.wormhole.proofs.Refusing.{none-first, none-unless}
 use Rattle.traffic.specs.declared.headers.Header.{Header}
-use Rattle.traffic.specs.Lists.{header, headers, outside, bad-header, bad-headers, offered, packets}
+use Rattle.traffic.specs.Lists.{header, headers, outside, bad-header, bad-headers, at-source, packets}
 
 -- all that comes after the first n
 pub rest : (l : List ℕ) (n : ℕ) → take (length l - n) (drop n l) ≡ drop n l
@@ -129,7 +129,7 @@ length-packets C [] = refl
 length-packets C (h ∷ hs) = ap suc (length-packets C hs)
 
 -- each is the header's own
-pub packet-there : (C : ℕ) (hs : List Header) (i : ℕ) (d : Header) → i < length hs → getD (packets C hs) i none ≡ offered C (getD hs i d)
+pub packet-there : (C : ℕ) (hs : List Header) (i : ℕ) (d : Header) → i < length hs → getD (packets C hs) i none ≡ at-source C (getD hs i d)
 unfolding packets
 packet-there C [] i d h = absurd (omega arith)
 packet-there C (x ∷ hs) zero d h = refl

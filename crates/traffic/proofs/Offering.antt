@@ -20,7 +20,7 @@ use Rattle.wormhole.proofs.Refusing.{sized}
 use Rattle.wormhole.proofs.Draining.Lists.{run-append}
 use Rattle.wormhole.proofs.Draining.Drained.{drains}
 use Rattle.traffic.specs.declared.headers.Header.{Header}
-use Rattle.traffic.specs.Lists.{lead, after-lead, bad-headers, packets, offered as at-source}
+use Rattle.traffic.specs.Lists.{lead, after-lead, bad-headers, packets, at-source}
 use Rattle.traffic.specs.Calls.{bad-read, filled, read, offering-of, offerings, due, dues}
 use Rattle.traffic.proofs.Allowed.{good-packet, dues-most}
 use Rattle.traffic.proofs.Heads.{Good, first-good, both-good, length-packets}

@@ -13,7 +13,7 @@ use Rattle.wormhole.specs.declared.records.Record.{Record}
 use Rattle.wormhole.specs.Memory.{none}
 use Rattle.wormhole.specs.Calls.{needed, fits}
 use Rattle.traffic.specs.Lists.{lead, place-in, header, headers, after-lead, bad-headers, packets, lead-bytes, node-byte, record-bytes, records-bytes, list-of}
-use Rattle.traffic.specs.Calls.{bad-read, read, filled, Filled, written, over, write}
+use Rattle.traffic.specs.Calls.{bad-read, read, filled, Output, written, over, write}
 use Rattle.traffic.proofs.Heads.{first-good, length-packets}
 use Rattle.traffic.proofs.Refusals.{listing, readable}
 use Rattle.traffic.proofs.Filling.{length-filled}
@@ -84,7 +84,7 @@ module _ (bs w : List ℕ) (rs : List Record) (z : bad-read bs (length w) (lengt
         length-replicate {A = ℕ} (needed C R) 0,
         length-filled (packets C hs) (length rs) (omega (arith, length-packets C hs, s .few)),
         size,
-      ) (ap {B = Filled} (λ l. record { answer = written 0 (length l); bytes = over l out }) list-back)
+      ) (ap {B = Output} (λ l. record { answer = written 0 (length l); bytes = over l out }) list-back)
 
   -- the theorem
   pub read-write : (out : List ℕ) → 194 ≤ length out

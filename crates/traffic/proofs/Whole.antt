@@ -18,7 +18,7 @@ use Rattle.wormhole.proofs.Every.{both}
 use Rattle.wormhole.proofs.Whole.{fits-at, surveyed-fit}
 use Rattle.traffic.specs.declared.reads.ListRead.{ListRead}
 use Rattle.traffic.specs.Lists.{lead, after-lead, bad-headers, packets, lead-bytes, node-byte, record-bytes, records-bytes, list-of}
-use Rattle.traffic.specs.Calls.{bad-read, read-answer, filled, read, Filled, written, over, bad-write, write}
+use Rattle.traffic.specs.Calls.{bad-read, read-answer, filled, read, Output, written, over, bad-write, write}
 use Rattle.traffic.specs.Coded.{Page, page, puts, served-count, stored, Start, start, starts}
 use Rattle.traffic.proofs.Heads.{length-packets}
 use Rattle.traffic.proofs.Putting.{puts-append, length-puts, puts-over}
@@ -98,7 +98,7 @@ module _ (C : ℕ) where
 
 -- ---- write
 -- what a call leaves whose page this is
-abbrev leaving : ℕ → Page → Filled
+abbrev leaving : ℕ → Page → Output
 leaving k p = record { answer = written k (p .end); bytes = p .bytes }
 
 -- a record that can be written

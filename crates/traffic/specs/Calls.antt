@@ -47,6 +47,7 @@ read bs w rs =
     unless (λ c. left (read-answer bs k) w rs) k
     (left (read-answer bs k) (replicate (length w) 0) (filled (packets (lead bs .columns) (after-lead bs)) (length rs)))
 
+-- ---- a list, as demand 3 speaks of it
 -- the offer of a header's packet
 abbrev pub offering-of : ℕ → Header → Call
 offering-of C h = offering (node C (h .source)) (node C (h .destination)) (h .flits)
@@ -67,7 +68,7 @@ dues C (h ∷ hs) = due C h + dues C hs
 
 -- ---- writing
 -- what a call leaves that writes bytes: its answer, and the lent bytes
-pub record Filled : Type 0 where
+pub record Output : Type 0 where
   pub answer : Written
   pub bytes : List ℕ
 
@@ -85,7 +86,7 @@ bad-write C R rule words records size fits =
     unless (λ k. k) (bad-size C R rule words records) (pick (leb 194 size) (pick fits 0 9) 7)
 
 -- writing: the list of the live records
-unfoldable pub write : ℕ → ℕ → ℕ → List ℕ → List Record → List ℕ → Filled
+unfoldable pub write : ℕ → ℕ → ℕ → List ℕ → List Record → List ℕ → Output
 write C R rule w rs out =
     let bs = list-of C R rule rs in
     unless (λ k. record { answer = written k 0; bytes = out }) (bad-write C R rule (length w) (length rs) (length out) (fits C R rule w rs))

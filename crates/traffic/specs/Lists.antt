@@ -62,13 +62,13 @@ bad-headers C R [] = 0
 bad-headers C R (h ∷ hs) = unless (λ k. k) (bad-header C R h) (bad-headers C R hs)
 
 -- the record of a header's packet, at its source
-abbrev pub offered : ℕ → Header → Record
-offered C h = fresh (node C (h .source)) (node C (h .destination)) (h .flits)
+abbrev pub at-source : ℕ → Header → Record
+at-source C h = fresh (node C (h .source)) (node C (h .destination)) (h .flits)
 
 -- those of headers, in their order
 unfoldable pub packets : ℕ → List Header → List Record
 packets C [] = []
-packets C (h ∷ hs) = offered C h ∷ packets C hs
+packets C (h ∷ hs) = at-source C h ∷ packets C hs
 
 -- ---- a list that is written
 -- the lead's two bytes
