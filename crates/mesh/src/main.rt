@@ -24,6 +24,7 @@ fn run() {
     }
 }
 
+// Prints a sheet, or how the program is used.
 fn main() {
     if is_run() {
         run();

@@ -12,8 +12,8 @@ use Rattle.traffic.specs.Calls.{bad-read, dues}
 use Rattle.report.specs.Sweeps.{sum}
 use Rattle.report.specs.Calls.{drain}
 
--- a list bs that is read into words w
 module _ (bs w : List ℕ) where
+  -- of list bs, read into words w
   pub record Paid : Type 0 where
     -- where draining stops no move is accepted, so that `stalled` is printed exactly if none is though a packet is on its way
     pub stops : (v : Move) → moves (lead bs .columns) (lead bs .rows) (lead bs .rule) (drain bs w .lent) v .answer ≢ 0
