@@ -36,17 +36,50 @@ static struct list overlong(size_t length)
     return list;
 }
 
+/* Bytes of the example, and what they are changed to. */
+static const struct {
+    size_t at;
+    uint8_t byte;
+} changes[] = {
+    {0, 0x01}, {0, 0x20}, {0, 0x11}, {0, 0xff},            /* sides 1 x 2, 3 x 1, 2 x 2, 16 x 16 */
+    {1, 0x00}, {1, 0x80}, {1, 0xa0}, {1, 0xe0},            /* rules 0, 4, 5, 7 */
+    {1, 0x21}, {1, 0x22}, {1, 0x24}, {1, 0x28}, {1, 0x30}, /* each spare bit */
+    {2, 0x30}, {2, 0x22}, {3, 0x31}, {3, 0x02},            /* off the mesh, each way */
+    {3, 0x20},                                             /* the source is the destination */
+    {4, 199},  {4, 200},  {4, 255},                        /* flits 200, 201, 256 */
+};
+
+static const size_t lengths[] = {193, 194, 195, 196, 197, 1000};
+
+enum {
+    CHANGES = sizeof changes / sizeof changes[0],
+    LENGTHS = sizeof lengths / sizeof lengths[0],
+    CUTS = 8
+};
+
 static struct list choose_list(unsigned number)
 {
-    static const size_t lengths[] = {0, 1, 193, 194, 195, 196, 197, 1000};
-    enum { LENGTHS = sizeof lengths / sizeof lengths[0] };
+    struct list list = example_list();
     if (number == 0)
-        return example_list();
-    if (number == 1)
+        return list;
+    number -= 1;
+    if (number == 0)
         return new_list(3, 2, WEST_FIRST);
-    if (number == 2)
+    number -= 1;
+    if (number == 0)
         return heaviest_list();
-    return number < 3 + LENGTHS ? overlong(lengths[number - 3]) : any_list();
+    number -= 1;
+    if (number < CHANGES) {
+        list.bytes[changes[number].at] = changes[number].byte;
+        return list;
+    }
+    number -= CHANGES;
+    if (number < CUTS) {
+        list.length = number;
+        return list;
+    }
+    number -= CUTS;
+    return number < LENGTHS ? overlong(lengths[number]) : any_list();
 }
 
 int main(int argc, char **argv)
