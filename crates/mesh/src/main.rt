@@ -1,4 +1,6 @@
 // The program `mesh run`: reads a traffic list from standard input and prints its sheet.
+#![tactic(auto)]
+
 use libc::{STDIN_FILENO, STDOUT_FILENO};
 
 // Is the program called with the one word `run`?

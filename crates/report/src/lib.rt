@@ -1,5 +1,7 @@
 // The sheet of a traffic list: the list is read, drains by the machine's own moves, and what each
 // packet took is written as text.
+#![tactic(auto)]
+
 mod drains;
 mod reports;
 mod sheets;

@@ -15,14 +15,14 @@ pub const RECORDS: usize = 64;
 pub const OWN_TURNS: usize = 6;
 
 // A packet's record, and how many moves of it were accepted.
-#[derive(Drop)]
+#[derive(Clone, Copy)]
 pub struct Counted {
     pub packet: Record,
     pub moves: u32,
 }
 
 // A move, as `mesh_move` takes it.
-#[derive(Drop)]
+#[derive(Clone, Copy)]
 pub struct Turn {
     pub packet: u8,
     pub kind: u8,

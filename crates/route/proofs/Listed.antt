@@ -23,7 +23,7 @@ module _ (C R rule : ℕ) (l : List ℕ) {k : ℕ} (hk : k ≡ bad_list C R rule
   unfolding checked
   not_checked h e = e ∙ rw (sym hk) (sym (unless.refuses no_pair _ k h))
 
-  module _ (served : k ≡ 0) {m : Coded} (hm : meant m ≡ ruled (rule_of rule) C R 0) where
+  module _ (served : k ≡ 0) (m : Coded) (hm : meant m ≡ ruled (rule_of rule) C R 0) where
     columns_are : m.columns ≡ C
     columns_are = ap (λ (g : Mesh). g.columns) hm
 
@@ -40,7 +40,7 @@ module _ (C R rule : ℕ) (l : List ℕ) {k : ℕ} (hk : k ≡ bad_list C R rule
 
     pub is_numbered : {x : List ℕ} → x ≡ numbering (rule_of rule) (meant m) → record { refusal = 0; list = x } ≡ numbered C R rule l
     unfolding numbered
-    is_numbered e = rw (sym hk ∙ served, e, hm) refl
+    is_numbered e = rw (sym hk ∙ served) (ap (λ list. record { refusal = 0; list = list }) (e ∙ ap (numbering (rule_of rule)) hm))
 
     pub is_checked : {r : Checked} → r ≡ first_pair (meant m) l → r ≡ checked C R rule l
     unfolding checked

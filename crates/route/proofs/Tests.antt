@@ -8,6 +8,7 @@ use borrow.Author.Tests.{not-true, not-false, le-leb, lt-leb}
 
 pub or_l : (a b : Bool) → T a → T (a || b)
 or_l true b t = tt
+or_l false b t = elim t [ ]
 
 pub or_r : (a b : Bool) → T b → T (a || b)
 or_r true b t = tt
@@ -32,6 +33,7 @@ neither {a = true} h = absurd (subst T h tt)
 
 pub passes : (b : Bool) → T b → b ≡ true
 passes true t = refl
+passes false t = elim t [ ]
 
 pub fails : (b : Bool) → (T b → ⊥) → b ≡ false
 fails true f = absurd (f tt)

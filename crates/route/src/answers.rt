@@ -17,7 +17,7 @@ const DELIVER: u8 = 16;
 
 // What leads from a place to a destination: `h` along the row, `v` along the column; `dx` columns and
 // `dy` rows are to go.
-#[derive(Drop)]
+#[derive(Clone, Copy)]
 struct Course {
     h: u8,
     v: u8,

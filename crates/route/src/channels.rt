@@ -6,7 +6,7 @@ ghost use Rattle.route.specs.Channels.{channel, start};
 
 use crate::places::{Place, node_of, place_of};
 
-#[derive(Drop)]
+#[derive(Clone, Copy)]
 pub struct Channel {
     pub start: Place,
     pub way: u8,

@@ -11,7 +11,7 @@ use crate::meshes::{Mesh, mesh_of};
 use crate::refusals::{NOT_RISING, bad_list};
 
 #[repr(C)]
-#[derive(Drop)]
+#[derive(Clone, Copy)]
 pub struct Checked {
     pub refusal: u8,
     pub incoming: u16,

@@ -11,7 +11,7 @@ use crate::meshes::Mesh;
 use crate::places::Place;
 
 // A place in its mesh: `c` columns lie west of it and `u` east, `r` rows south and `d` north.
-#[derive(Drop)]
+#[derive(Clone, Copy)]
 struct Frame {
     columns: u16,
     rows: u16,

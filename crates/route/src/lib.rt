@@ -6,6 +6,8 @@
 //
 // `mesh_number` numbers the channels so that numbers rise along everything that a rule allows;
 // `mesh_check` looks whether somebody else's numbers rise, and where they first do not.
+#![tactic(auto)]
+
 mod answers;
 mod channels;
 mod checks;

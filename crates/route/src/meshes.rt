@@ -15,7 +15,7 @@ pub const LOCAL: u8 = 4;
 
 // The turn table is 16 bits, 1 for allowed: NE, NW, SE, SW, EN, ES, WN, WS in even columns, lowest
 // first, then in odd ones.
-#[derive(Drop)]
+#[derive(Clone, Copy)]
 pub struct Mesh {
     pub columns: u8,
     pub rows: u8,

@@ -4,13 +4,13 @@ ghost use Rattle.route.specs.Grid.{pick, at, gap};
 ghost use Rattle.route.specs.Numbers.{node, place_of};
 ghost use Rattle.route.specs.Paths.{same_place};
 
-#[derive(Drop)]
+#[derive(Clone, Copy)]
 pub struct Column(pub u8);
 
-#[derive(Drop)]
+#[derive(Clone, Copy)]
 pub struct Row(pub u8);
 
-#[derive(Drop)]
+#[derive(Clone, Copy)]
 pub struct Place {
     pub column: Column,
     pub row: Row,

@@ -8,7 +8,7 @@ use crate::places::place_of;
 use crate::refusals::{BAD_ARRIVAL, BAD_NODE, NO_PATH, bad_mesh};
 
 #[repr(C)]
-#[derive(Drop)]
+#[derive(Clone, Copy)]
 pub struct Routed {
     pub refusal: u8,
     pub outputs: u8,

@@ -7,7 +7,7 @@ use route::{BAD_FLITS, BAD_NODE, Column, Place, Row, SAME_NODE, node_of};
 use wormhole::{MOST_FLITS, Record, fresh, none};
 
 // A packet as a list has it.
-#[derive(Drop)]
+#[derive(Clone, Copy)]
 pub struct Header {
     pub source: Place,
     pub destination: Place,

@@ -3,6 +3,8 @@
 //
 // `mesh_read` judges a whole list before it touches memory; then the mesh is empty but for the list's
 // packets, each at its source. `mesh_write` writes the list of the packets that are live.
+#![tactic(auto)]
+
 mod headers;
 mod lists;
 mod pages;

@@ -11,7 +11,7 @@ use wormhole::bad_size;
 pub const MOST_BYTES: usize = 194;
 
 // What a list says of its mesh, and its spare bits.
-#[derive(Drop)]
+#[derive(Clone, Copy)]
 pub struct Lead {
     pub columns: u8,
     pub rows: u8,

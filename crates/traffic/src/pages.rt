@@ -4,7 +4,7 @@ ghost use Rattle.traffic.specs.Coded.{page, put};
 
 // The answer of a call that writes bytes.
 #[repr(C)]
-#[derive(Drop)]
+#[derive(Clone, Copy)]
 pub struct Written {
     pub refusal: u8,
     pub length: u16,

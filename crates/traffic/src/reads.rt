@@ -11,7 +11,7 @@ use wormhole::{Record, put_back, zero};
 
 // The refusal, and the mesh and how many packets the list has, all 0 with a refusal.
 #[repr(C)]
-#[derive(Drop)]
+#[derive(Clone, Copy)]
 pub struct ListRead {
     pub refusal: u8,
     pub columns: u8,

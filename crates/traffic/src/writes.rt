@@ -15,7 +15,7 @@ use route::{BAD_SIZE, place_of};
 use wormhole::{Record, bad_memory, bad_size, record_at, survey};
 
 // The refusal, how many records are to be written, and where.
-#[derive(Drop)]
+#[derive(Clone, Copy)]
 pub struct Begun {
     pub refusal: u8,
     pub count: usize,

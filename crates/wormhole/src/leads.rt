@@ -15,7 +15,7 @@ use crate::words::{drain, holds_of, owner_of, put, set_next};
 use route::{Channel, LOCAL, Mesh, Place, channel_of, outputs_at, place_of};
 
 // Where a packet's header is, and how it came there.
-#[derive(Drop)]
+#[derive(Clone, Copy)]
 pub struct Header {
     pub place: Place,
     pub arrival: u8,

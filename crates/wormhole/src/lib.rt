@@ -4,6 +4,8 @@
 // `mesh_reset` empties the memory, `mesh_offer` puts a packet at its source, `mesh_move` moves one
 // flit by one channel. The latter two look at all of the memory first and refuse what is out of
 // range; then a move is served by the step rules, on any memory, whoever left it so.
+#![tactic(auto)]
+
 mod eats;
 mod feeds;
 mod follows;

@@ -11,7 +11,7 @@ use crate::surveys::survey;
 use route::{BAD_MOVE, NOT_NOW, mesh_of};
 
 // The refusal, and the packet's record after the move, as it was with a refusal.
-#[derive(Drop)]
+#[derive(Clone, Copy)]
 pub struct Moved {
     pub refusal: u8,
     pub packet: Record,

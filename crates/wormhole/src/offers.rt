@@ -16,14 +16,14 @@ use route::{BAD_FLITS, BAD_NODE, FULL, SAME_NODE};
 const NO_RECORD: u8 = 255;
 
 #[repr(C)]
-#[derive(Drop)]
+#[derive(Clone, Copy)]
 pub struct Offered {
     pub refusal: u8,
     pub record: u8,
 }
 
 // The answer, and what is stored where: past the last record if the offer is refused.
-#[derive(Drop)]
+#[derive(Clone, Copy)]
 pub struct Placed {
     pub answer: Offered,
     pub at: usize,

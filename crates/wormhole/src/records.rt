@@ -6,7 +6,7 @@ ghost use Rattle.wormhole.specs.Coded.{cleared};
 // A packet's record. An empty one is all zero. `rear` and `front` are 0, or 1 + the oldest and the
 // newest channel held.
 #[repr(C)]
-#[derive(Drop)]
+#[derive(Clone, Copy)]
 pub struct Record {
     pub live: u8,
     pub source: u16,

@@ -7,7 +7,7 @@ use crate::records::{Record, clear};
 use crate::sizes::bad_size;
 
 // The refusal, and how many records are to be cleared.
-#[derive(Drop)]
+#[derive(Clone, Copy)]
 pub struct Wiped {
     pub refusal: u8,
     pub count: usize,

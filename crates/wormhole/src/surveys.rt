@@ -7,7 +7,7 @@ use crate::records::{Record, record_at};
 
 // What is known of the records seen so far. `empty` is the lowest empty one, or their number where
 // none is empty.
-#[derive(Drop)]
+#[derive(Clone, Copy)]
 pub struct Found {
     pub fit: bool,
     pub empty: usize,
