@@ -1,6 +1,4 @@
--- The proofs that belong to no one function, each after those that it rests on. Walks is for the functions over the lent records, which are
--- walked by hand; what stands after it is for the others. Draining is of all calls together.
-pub mod Walks
+-- The proofs that belong to no one function, each after those that it rests on. Draining is of all calls together.
 pub mod Data
 pub mod Every
 pub mod AnyRule

@@ -1,6 +1,6 @@
--- One more record seen, each return from its tests; and a loop that makes words 0. Assumes nothing.
+-- One more record seen, each return from its tests, and one more surveyed; and a loop that makes words 0. Assumes nothing.
 use Prim.Native.Nat.{ℕ, suc, ◌+◌, ◌≤◌, ◌<◌}
-use mathlib.Core.Path.{◌≡◌, refl, sym}
+use mathlib.Core.Path.{◌≡◌, refl, sym, ◌∙◌}
 use mathlib.Core.Bool.{Bool, ◌&&◌}
 use mathlib.Core.List.{List, [], ◌∷◌, ◌++◌, append-nil}
 use native.Mathlib.Numerals.{add-one}
@@ -10,8 +10,9 @@ use lib.Seq.{drop-cons, set_at, append_snoc}
 use borrow.Author.Tests.{eq-eqb, ne_eqb, lt-ltb, le-ltb}
 use Rattle.wormhole.specs.declared.records.Record.{Record}
 use Rattle.wormhole.specs.declared.surveys.Found.{Found}
+use Rattle.wormhole.specs.Memory.{none}
 use Rattle.wormhole.specs.Range.{record_fits}
-use Rattle.wormhole.specs.Coded.{sides, seen}
+use Rattle.wormhole.specs.Coded.{sides, seen, surveyed}
 
 module _ (C R : ℕ) (s : Found) (i : ℕ) (r : Record) {b : Bool} (eb : b ≡ record_fits (sides C R) r) where
   pub seen_after : s.empty < i → record { fit = s.fit && b; empty = s.empty } ≡ seen C R s i r
@@ -22,6 +23,11 @@ module _ (C R : ℕ) (s : Found) (i : ℕ) (r : Record) {b : Bool} (eb : b ≡ r
 
   pub seen_live : i ≤ s.empty → (r.live ≡ 0 → ⊥) → record { fit = s.fit && b; empty = i + 1 } ≡ seen C R s i r
   seen_live h e = rw (eb, le-ltb s.empty i h, ne_eqb r.live 0 e, add-one) refl
+
+-- one more record surveyed
+pub surveyed_more : (C R : ℕ) (rs : List Record) (i : ℕ) {s t : Found} {r : Record} → s ≡ surveyed C R rs i → r ≡ get_or rs i none → t ≡ seen C R s i r → t ≡ surveyed C R rs (i + 1)
+unfolding surveyed
+surveyed_more C R rs i e g h = rw add-one (h ∙ rw (e, g) refl)
 
 -- ---- a loop that has made the first i words 0
 module _ (w v : List ℕ) (i : ℕ) (e : v ≡ replicate i 0 ++ drop i w) (same : length v ≡ length w) where

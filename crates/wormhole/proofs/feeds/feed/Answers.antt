@@ -1,0 +1,16 @@
+-- What the test of the move tells is what the store asks for. Assumes nothing.
+use borrow.Author.Rules.{rules}
+use Rattle.wormhole.proofs.Flowing.{feed_waiting, fed, feed_some, feed_in, feed_room}
+use Rattle.wormhole.proofs.feeds.feed.Goals as goal
+
+pub overflow_sub-r : goal.overflow_sub-r
+overflow_sub-r c = search feed_some
+
+pub fill-requires : goal.fill-requires
+fill-requires c = record { words_len = search rules; k_lt_n = search feed_in; k_bound = search feed_room }
+
+pub overflow_sub-s : goal.overflow_sub-s
+overflow_sub-s c = search feed_waiting
+
+pub returns : goal.returns
+returns c = search fed

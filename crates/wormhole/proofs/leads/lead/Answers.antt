@@ -1,0 +1,25 @@
+-- What the test of the move tells is what the stores ask for; from the source or from the front. Assumes nothing.
+use native.Mathlib.Omega.{arith}
+use borrow.Author.Rules.{rules}
+use Rattle.wormhole.proofs.Serving.{Told, tells}
+use Rattle.wormhole.proofs.Leading.{front_below, lead_waiting, lead_flit, led_out, led_on}
+use Rattle.wormhole.proofs.leads.lead.Goals as goal
+
+pub start-requires : goal.start-requires
+start-requires c =
+    let x = c.args in
+    let t : Told x.m x.r = search tells in
+    record { words_len = omega arith; t_lt_n = omega arith; t_bound = omega arith; le_waiting = search lead_waiting }
+
+pub returns-then-r-eq0 : goal.returns-then-r-eq0
+returns-then-r-eq0 c = search led_out
+
+pub advance-requires : goal.advance-requires
+advance-requires c =
+    let x = c.args in
+    let t : Told x.m x.r = search tells in
+    let low = front_below x.m x.r t (search rules) in
+    record { words_len = omega arith; t_lt_n = omega arith; t_bound = omega arith; k_lt_n = omega arith; k_bound = omega arith; k_nonzero = search lead_flit }
+
+pub returns : goal.returns
+returns c = search led_on

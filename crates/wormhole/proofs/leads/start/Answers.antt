@@ -1,0 +1,6 @@
+-- The channel is claimed, and the record says so. Assumes nothing.
+use Rattle.wormhole.proofs.Leading.{starting}
+use Rattle.wormhole.proofs.leads.start.Goals as goal
+
+pub returns : goal.returns
+returns c = search starting

@@ -1,0 +1,6 @@
+-- The next is read before the words are cleared. Assumes nothing.
+use Rattle.wormhole.proofs.Emptied.{released}
+use Rattle.wormhole.proofs.releases.release.Goals as goal
+
+pub returns : goal.returns
+returns c = search released
