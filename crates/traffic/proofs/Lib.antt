@@ -5,7 +5,6 @@ mod Alive
 pub mod Putting
 pub mod Refusals
 pub mod Storing
-mod Data
 mod Whole
 pub mod Allowed
 mod Filling

@@ -1,8 +1,9 @@
 -- Records that are replaced from the first on: those of the packets, then empty ones. By induction on both lists. Assumes nothing.
-use Prim.Native.Nat.{ℕ, zero, suc, ◌≤◌}
+use Prim.Native.Nat.{ℕ, zero, suc, ◌+◌, ◌≤◌}
 use mathlib.Core.Path.{◌≡◌, refl, ◌∙◌, ap}
 use mathlib.Core.List.{List, [], ◌∷◌}
 use native.Mathlib.Nat.{sub-zero, suc-sub-suc}
+use native.Mathlib.Numerals.{add-one}
 use native.Mathlib.Omega.{arith}
 use lib.ListN.{length, set, get_or, length-set}
 use Rattle.wormhole.specs.declared.records.Record.{Record}
@@ -14,6 +15,11 @@ pub length_stored : (ps rs : List Record) (n : ℕ) → length (stored ps rs n) 
 unfolding stored
 length_stored ps rs zero = refl
 length_stored ps rs (suc n) = length-set (stored ps rs n) n (get_or ps n none) ∙ length_stored ps rs n
+
+-- one more
+pub stored_more : (ps rs : List Record) (i : ℕ) {ys zs : List Record} {r : Record} → ys ≡ stored ps rs i → r ≡ get_or ps i none → zs ≡ set ys i r → zs ≡ stored ps rs (i + 1)
+unfolding stored
+stored_more ps rs i e n h = rw add-one (h ∙ rw (e, n) refl)
 
 stored_next : (p : Record) (ps : List Record) (r : Record) (rs : List Record) (n : ℕ) → stored (p ∷ ps) (r ∷ rs) (suc n) ≡ p ∷ stored ps rs n
 unfolding stored

@@ -1,8 +1,9 @@
 -- The two calls as wholes: what the parts of a call leave is what its promise says, by the cases of the refusal. Assumes nothing.
-use Prim.Native.Nat.{ℕ, zero, suc, ◌-◌, ◌*◌, ◌≤◌, ◌<◌}
+use Prim.Native.Nat.{ℕ, zero, suc, ◌+◌, ◌-◌, ◌*◌, ◌≤◌, ◌<◌}
 use mathlib.Core.Path.{◌≡◌, refl, sym, ◌∙◌, ap}
 use mathlib.Core.Bool.{Bool, true, false, ◌&&◌}
 use mathlib.Core.List.{List, [], ◌∷◌}
+use native.Mathlib.Numerals.{add-one}
 use native.Mathlib.Omega.{arith}
 use lib.Dec.{eqb}
 use lib.ListN.{length, get_or, replicate, length-append}
@@ -75,6 +76,11 @@ module _ (C : ℕ) where
   unfolding wrote
   length_wrote p rs zero = refl
   length_wrote p rs (suc n) = length_puts (wrote p rs n) (record_bytes C (get_or rs n none)) ∙ length_wrote p rs n
+
+  -- one more
+  pub wrote_more : (p : Page) (rs : List Record) (i : ℕ) {q t : Page} {r : Record} → q ≡ wrote p rs i → r ≡ get_or rs i none → t ≡ puts q (record_bytes C r) → t ≡ wrote p rs (i + 1)
+  unfolding wrote
+  wrote_more p rs i e n h = rw add-one (h ∙ rw (e, n) refl)
 
   wrote_next : (p : Page) (r : Record) (rs : List Record) (n : ℕ) → wrote p (r ∷ rs) (suc n) ≡ wrote (puts p (record_bytes C r)) rs n
   unfolding wrote

@@ -5,15 +5,13 @@ use mathlib.Core.Bool.{Bool, true, false}
 use mathlib.Core.List.{List}
 use native.Mathlib.Omega.{arith}
 use lib.ListN.{length, replicate}
-use borrow.Author.Rules.{rules}
 use Rattle.route.proofs.Promises.{refuses}
 use Rattle.wormhole.specs.Coded.{wiped_words}
 use Rattle.traffic.specs.declared.lists.Lead.{Lead}
 use Rattle.traffic.specs.Lists.{listed, lead, after_lead}
 use Rattle.traffic.specs.Calls.{bad_read, told, read_answer}
 use Rattle.traffic.proofs.Refusals.{listing}
-use Rattle.traffic.proofs.reads.judge.Statement.{statement}
-use Rattle.traffic.proofs.reads.judge.Tie as tie
+use Rattle.traffic.proofs.reads.judge.Goals as goal
 
 module _ (bs w : List ℕ) (count : ℕ) {k : ℕ} (hk : k ≡ bad_read bs (length w) count) where
   module _ (h : k ≡ 0 → ⊥) where
@@ -43,39 +41,14 @@ module _ (bs w : List ℕ) (count : ℕ) {k : ℕ} (hk : k ≡ bad_read bs (leng
     has-lead : 2 ≤ length bs
     has-lead = (listing (length bs) is-long).some
 
-bad-read-requires : tie.Need-bad-read-requires
-bad-read-requires c κs = search rules
+pub returns-then-refusal-ne0 : goal.returns-then-refusal-ne0
+returns-then-refusal-ne0 c = let off : c.bad_read-refusal.result ≡ 0 → ⊥ = omega arith in (search refused, search kept)
 
-returns : tie.Need-returns
-returns c = let off : c.before.bad_read.result ≡ 0 → ⊥ = omega arith in (search refused, search kept)
+pub lead_of-lead-requires : goal.lead_of-lead-requires
+lead_of-lead-requires c = let off : c.bad_read-refusal.result ≡ 12 → ⊥ = omega arith in search has-lead
 
-zero-requires : tie.Need-zero-requires
-zero-requires c κs = search rules
+pub packets_of-requires : goal.packets_of-requires
+packets_of-requires c = let off : c.bad_read-refusal.result ≡ 12 → ⊥ = omega arith in search is-long
 
-lead-of-requires : tie.Need-lead-of-requires
-lead-of-requires c κs = let off : c.before.before.before.before.before.bad_read.result ≡ 12 → ⊥ = omega arith in search has-lead
-
-packets-of-requires : tie.Need-packets-of-requires
-packets-of-requires c κs = let off : c.before.before.before.before.before.before.bad_read.result ≡ 12 → ⊥ = omega arith in search is-long
-
-cast-t11 : tie.Need-overflow-cast-t11
-cast-t11 c = search rules
-
-same_length : tie.Need-same-length
-same_length c = search rules
-
-returns-2 : tie.Need-returns-2
-returns-2 c = let on : c.before.before.before.before.before.before.before.bad_read.result ≡ 0 = omega arith in (search answered, search emptied)
-
-pub judge-spec : {M : Type 1} → statement M
-judge-spec =
-    tie.close
-    (tie.spec
-    bad-read-requires
-    returns
-    zero-requires
-    lead-of-requires
-    packets-of-requires
-    cast-t11
-    same_length
-    returns-2)
+pub returns : goal.returns
+returns c = let on : c.bad_read-refusal.result ≡ 0 = omega arith in (search answered, search emptied)

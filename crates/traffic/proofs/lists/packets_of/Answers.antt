@@ -1,0 +1,16 @@
+-- As many headers as the bytes after the lead have threes. Assumes nothing.
+use mathlib.Core.Path.{refl, sym, ◌∙◌}
+use native.Mathlib.Omega.{arith}
+use lib.ListN.{length, drop, length-drop}
+use Rattle.traffic.proofs.Heads.{length_headers}
+use Rattle.traffic.proofs.Refusals.{listing}
+use Rattle.traffic.proofs.lists.packets_of.Goals as goal
+
+pub overflow_sub-result : goal.overflow_sub-result
+overflow_sub-result c = (listing (length c.args.list.now) c.requires).some
+
+pub returns : goal.returns
+returns c =
+    let l = c.args.list.now in
+    let k = listing (length l) c.requires in
+    record { fact_1 = sym (length_headers (drop 2 l) ∙ rw (length-drop 2 l) refl); fact_2 = omega arith }
