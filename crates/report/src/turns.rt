@@ -127,8 +127,8 @@ pub fn make(words: &mut [u16], m: Mesh, v: Turn, c: Counted) -> Counted
     requires memory { Memory m words.old }
     requires direction_value { accepted (built m) (laid m words.old) v.packet c.packet v.kind v.channel v.direction ≡ true }
     requires moves_bound { c.moves + 1 < 2 ^ 32 }
-    ensures { record { words = laid m words.exit.now; counted = result }
-        ≡ done (built m) (laid m words.entry.now) v c }
+    ensures { record { words = laid m words.new; counted = result }
+        ≡ done (built m) (laid m words.old) v c }
 {
     let packet = act(words, m, v.packet, c.packet, v.kind, v.channel, v.direction);
     Counted {

@@ -1,0 +1,5 @@
+-- By the number, which falls to its tenth. Assumes nothing.
+use Rattle.report.proofs.texts.+put_number.Given as goal
+
+abbrev pub decreases-put_number : goal.decreases-put_number
+decreases-put_number l = l.n
