@@ -1,38 +1,54 @@
 // The program `mesh run`: reads a traffic list from standard input and prints its sheet.
 #![tactic(auto)]
 
-use libc::{STDIN_FILENO, STDOUT_FILENO};
+ghost use Rattle.std.specs.Prelude.{◌≤◌, length, IfOk};
+
+use std::env::FillError;
+use std::io::{self, Read, Write};
+use std::rt::Env;
 
 // Is the program called with the one word `run`?
-fn is_run() -> bool {
+fn is_run(rt: &impl Env) -> bool {
     let mut word = [0u8; 4];
-    let n = os::arg(1, &mut word);
+    let n = rt.arg(1, &mut word);
     let spelt = (word[0] == b'r') & (word[1] == b'u') & (word[2] == b'n');
-    (os::arg_count() == 2) & (n == 3) & spelt
+    let alone = matches!(rt.arg(2, &mut word), Err(FillError::NotPresent));
+    matches!(n, Ok(3)) & spelt & alone
+}
+
+// Reads until the buffer is full or the input ends. Returns how many bytes it put at the start.
+fn read_full<R: Read>(input: &mut R, buf: &mut [u8]) -> io::Result<usize>
+    ensures { IfOk result (λ n. n ≤ length buf.new) }
+{
+    let mut done = 0;
+    while done < buf.len() {
+        let n = input.read(&mut buf[done..])?;
+        if n == 0 {
+            break;
+        }
+        done += n;
+    }
+    Ok(done)
 }
 
 // Prints the sheet of the list on standard input. A list has at most 194 bytes, so that one more is
 // enough to refuse whatever is longer.
-fn run() {
+fn run(rt: &(impl Input + Print)) -> io::Result<()> {
     let mut list = [0u8; 195];
-    let n = io::read_full(STDIN_FILENO, &mut list);
+    let n = read_full(&mut rt.reader(), &mut list)?;
     let mut words: [u16; 3072] = [0; 3072];
     let mut sheet = [0u8; 1024];
     let written = report::mesh_report(&list[..n], &mut words, &mut sheet);
     let length = written.length as usize;
-    if !io::write_all(STDOUT_FILENO, &sheet[..length]) {
-        os::fail(b"write");
-    }
+    io::writer(rt).write_all(&sheet[..length])
 }
 
 // Prints a sheet, or how the program is used.
-fn main() {
-    if is_run() {
-        run();
-        return;
+fn main(rt: HostRuntime) -> io::Result<()> {
+    if is_run(&rt) {
+        return run(&rt);
     }
-    io::write_all(
-        STDOUT_FILENO,
-        b"usage: mesh run < LIST\nReads a traffic list and prints the hops and the moves of each packet.\n",
-    );
+    print!(rt;
+        "usage: mesh run < LIST\nReads a traffic list and prints the hops and the moves of each packet.\n"
+    )
 }
