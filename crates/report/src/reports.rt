@@ -59,8 +59,7 @@ fn put_report(list: &[u8], words: &mut [u16], out: &mut [u8]) -> usize
 }
 
 // Reads a list, drains it, and writes its sheet at the start of lent bytes.
-#[unsafe(no_mangle)]
-pub extern "C" fn mesh_report(list: &[u8], words: &mut [u16], out: &mut [u8]) -> Written
+pub fn mesh_report(list: &[u8], words: &mut [u16], out: &mut [u8]) -> Written
     ensures { record { answer = result; words = words.new; bytes = out.new }
         ≡ report list.now words.old out.old }
 {

@@ -102,8 +102,7 @@ fn first_pair(m: Mesh, list: &[u16]) -> Checked
 
 // Looks whether a list, whoever made it, rises at every turn by 90 degrees that the rule allows, and
 // names the first pair of channels at which it does not.
-#[unsafe(no_mangle)]
-pub extern "C" fn mesh_check(columns: u8, rows: u8, rule: u8, list: &[u16]) -> Checked
+pub fn mesh_check(columns: u8, rows: u8, rule: u8, list: &[u16]) -> Checked
     ensures { result ≡ checked columns rows rule list.now }
 {
     let refusal = bad_list(columns, rows, rule, list.len());

@@ -39,8 +39,7 @@ fn fill(m: Mesh, rule: u8, list: &mut [u16])
 }
 
 // Fills a list of 4 × columns × rows words with the house numbers, 0 where no channel exists.
-#[unsafe(no_mangle)]
-pub extern "C" fn mesh_number(columns: u8, rows: u8, rule: u8, list: &mut [u16]) -> u8
+pub fn mesh_number(columns: u8, rows: u8, rule: u8, list: &mut [u16]) -> u8
     ensures { record { refusal = result; list = list.new } ≡ numbered columns rows rule list.old }
 {
     let refusal = bad_list(columns, rows, rule, list.len());

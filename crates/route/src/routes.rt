@@ -26,8 +26,7 @@ fn refused(refusal: u8) -> Routed
 
 // The outputs at a node for a packet that arrived travelling `arrival`, or starts there, and goes
 // to another node: exactly the first hops of the shortest paths that the rule allows.
-#[unsafe(no_mangle)]
-pub extern "C" fn mesh_route(
+pub fn mesh_route(
     columns: u8,
     rows: u8,
     rule: u8,

@@ -57,8 +57,7 @@ pub fn served_count(refusal: u8, count: usize) -> usize
 }
 
 // Makes the mesh of a list empty but for the list's packets, each at its source.
-#[unsafe(no_mangle)]
-pub extern "C" fn mesh_read(list: &[u8], words: &mut [u16], records: &mut [Record]) -> ListRead
+pub fn mesh_read(list: &[u8], words: &mut [u16], records: &mut [Record]) -> ListRead
     ensures { left result words.new records.new
         ≡ read list.now words.old records.old }
 {

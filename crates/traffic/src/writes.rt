@@ -114,8 +114,7 @@ fn answer(refusal: u8, length: usize) -> Written
 }
 
 // Writes the list of the live records at the start of lent bytes.
-#[unsafe(no_mangle)]
-pub extern "C" fn mesh_write(
+pub fn mesh_write(
     columns: u8,
     rows: u8,
     rule: u8,

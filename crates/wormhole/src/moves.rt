@@ -58,8 +58,7 @@ fn attempt(
 
 // Moves one flit of a record's packet by one channel. A lead names the direction, a follow the
 // channel that the flit leaves.
-#[unsafe(no_mangle)]
-pub extern "C" fn mesh_move(
+pub fn mesh_move(
     columns: u8,
     rows: u8,
     rule: u8,

@@ -141,8 +141,7 @@ fn place(
 }
 
 // Puts a packet at its source, in the lowest empty record.
-#[unsafe(no_mangle)]
-pub extern "C" fn mesh_offer(
+pub fn mesh_offer(
     columns: u8,
     rows: u8,
     rule: u8,

@@ -38,8 +38,7 @@ fn wipe(words: &mut [u16], columns: u8, rows: u8, count: usize) -> Wiped
 }
 
 // Makes the mesh empty, whatever the memory has.
-#[unsafe(no_mangle)]
-pub extern "C" fn mesh_reset(columns: u8, rows: u8, words: &mut [u16], records: &mut [Record]) -> u8
+pub fn mesh_reset(columns: u8, rows: u8, words: &mut [u16], records: &mut [Record]) -> u8
     ensures { left result words.new records.new
         ≡ reset columns rows words.old records.old }
 {

@@ -14,9 +14,9 @@ put_record-end-requires c =
     let x = c.args in
     let b = c.begin-begun in
     let begun : start b.result.refusal b.result.count (page b.new.out b.result.end) ≡ begins x.columns x.rows x.rule x.words.now x.records.now x.out.now =
-        rw c.survey-found.ensures at b.ensures in
+    rw c.survey-found.ensures at b.ensures in
     let can : Writing x.columns x.rows c.record_at-r.result =
-        rw c.record_at-r.ensures (begins_writing x.columns x.rows x.rule x.words.now x.records.now x.out.now (omega (arith, ap (λ (s : Start). s.count) begun))) in
+    rw c.record_at-r.ensures (begins_writing x.columns x.rows x.rule x.words.now x.records.now x.out.now (omega (arith, ap (λ (s : Start). s.count) begun))) in
     record { columns_bound = can.columns; rows_bound = can.rows; r_value = can.fits }
 
 pub loop-i-preserved : goal.loop-i-preserved
@@ -29,10 +29,10 @@ answer-requires c =
     let x = c.args in
     let b = c.begin-begun in
     let begun : start b.result.refusal b.result.count (page b.new.out b.result.end) ≡ begins x.columns x.rows x.rule x.words.now x.records.now x.out.now =
-        rw c.survey-found.ensures at b.ensures in
+    rw c.survey-found.ensures at b.ensures in
     let last : c.loop-i.i ≡ b.result.count = omega arith in
     let whole : page c.loop-i.out c.loop-i.end ≡ ends x.columns x.rows x.rule x.words.now x.records.now x.out.now =
-        rw (c.loop-i.invariant.1, last) (ap (λ (s : Start). wrote x.columns s.onto x.records.now s.count) begun) in
+    rw (c.loop-i.invariant.1, last) (ap (λ (s : Start). wrote x.columns s.onto x.records.now s.count) begun) in
     omega (arith, (whole_write x.columns x.rows x.rule x.words.now x.records.now x.out.now).1, ap (λ (p : Page). p.end) whole)
 
 pub returns : goal.returns
@@ -40,10 +40,10 @@ returns c =
     let x = c.args in
     let b = c.begin-begun in
     let begun : start b.result.refusal b.result.count (page b.new.out b.result.end) ≡ begins x.columns x.rows x.rule x.words.now x.records.now x.out.now =
-        rw c.survey-found.ensures at b.ensures in
+    rw c.survey-found.ensures at b.ensures in
     let last : c.loop-i.i ≡ b.result.count = omega arith in
     let whole : page c.loop-i.out c.loop-i.end ≡ ends x.columns x.rows x.rule x.words.now x.records.now x.out.now =
-        rw (c.loop-i.invariant.1, last) (ap (λ (s : Start). wrote x.columns s.onto x.records.now s.count) begun) in
+    rw (c.loop-i.invariant.1, last) (ap (λ (s : Start). wrote x.columns s.onto x.records.now s.count) begun) in
     let refusal = ap (λ (s : Start). s.refusal) begun in
     let bytes = ap (λ (p : Page). p.bytes) whole in
     let end = ap (λ (p : Page). p.end) whole in

@@ -17,7 +17,7 @@ returns c =
     let rs = x.records.now in
     let a = c.attempt-moved in
     let e : tried a.result.refusal a.new.words a.result.packet ≡ try x.columns x.rows x.rule x.words.now (surveyed x.columns x.rows rs (length rs)).fit (length rs) (get_or rs x.record none) x.record x.kind x.channel x.direction =
-        rw (c.survey-found.ensures, c.record_at-r.ensures) at a.ensures in
+    rw (c.survey-found.ensures, c.record_at-r.ensures) at a.ensures in
     rw c.put_back.ensures
     (ap (λ (t : Tried). left t.refusal t.words (set rs x.record t.packet)) e
     ∙ whole_move x.columns x.rows x.rule x.words.now rs x.record x.kind x.channel x.direction)

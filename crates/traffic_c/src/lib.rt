@@ -1,0 +1,34 @@
+// The calls of `traffic`, for C: each is the library's own, with its promise. `include/mesh.h` declares them.
+#![tactic(auto)]
+
+ghost use Rattle.std.specs.Prelude.{◌≡◌};
+ghost use Rattle.wormhole.specs.Calls.{left};
+ghost use Rattle.traffic.specs.Calls.{read, write};
+
+use traffic::{ListRead, Written};
+use wormhole::Record;
+
+// `traffic::mesh_read`.
+#[unsafe(no_mangle)]
+pub extern "C" fn mesh_read(list: &[u8], words: &mut [u16], records: &mut [Record]) -> ListRead
+    ensures { left result words.new records.new
+        ≡ read list.now words.old records.old }
+{
+    traffic::mesh_read(list, words, records)
+}
+
+// `traffic::mesh_write`.
+#[unsafe(no_mangle)]
+pub extern "C" fn mesh_write(
+    columns: u8,
+    rows: u8,
+    rule: u8,
+    words: &[u16],
+    records: &[Record],
+    out: &mut [u8],
+) -> Written
+    ensures { record { answer = result; bytes = out.new }
+        ≡ write columns rows rule words.now records.now out.old }
+{
+    traffic::mesh_write(columns, rows, rule, words, records, out)
+}
