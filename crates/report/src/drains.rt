@@ -17,10 +17,10 @@ const MOST_SWEEPS: u32 = 396801;
 // The packets of a list, each at its source, with no move counted.
 fn load(list: &[u8], columns: u8, rows: u8) -> [Counted; 64]
     requires in_bounds { 2 ≤ length list.now }
-    requires list_value { bad_headers columns rows (after_lead list.now) ≡ 0 }
-    requires list_len_bound { length (after_lead list.now) ≤ 64 }
-    ensures fact_1 { recs result ≡ filled (packets columns (after_lead list.now)) 64 }
-    ensures fact_2 { counts result ≡ replicate 64 0 }
+    requires headers_served { bad_headers columns rows (after_lead list.now) ≡ 0 }
+    requires few { length (after_lead list.now) ≤ 64 }
+    ensures packets { recs result ≡ filled (packets columns (after_lead list.now)) 64 }
+    ensures none_counted { counts result ≡ replicate 64 0 }
 {
     let empty = Counted {
         packet: none(),

@@ -19,8 +19,8 @@ const SHEET_BYTES: usize = 1024;
 // How many words a list's mesh needs.
 fn need_of(list: &[u8]) -> usize
     requires { 2 ≤ length list.now }
-    ensures fact_1 { result ≡ need list.now }
-    ensures fact_2 { result ≤ 780300 }
+    ensures value { result ≡ need list.now }
+    ensures bound { result ≤ 780300 }
 {
     let lead = lead_of(list);
     let n = channels_of(lead.columns, lead.rows);

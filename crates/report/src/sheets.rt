@@ -49,8 +49,8 @@ fn put_lines(out: &mut [u8], end: usize, list: &[u8], all: [Counted; 64]) -> usi
 
 // Writes the sheet of a list whose packets made these moves. Returns its length.
 pub fn put_sheet(out: &mut [u8], list: &[u8], all: [Counted; 64]) -> usize
-    requires list_value { listed (length list.now) ≡ true }
-    requires all_bound { sum (counts all) ≤ 396800 }
+    requires listed { listed (length list.now) ≡ true }
+    requires few { sum (counts all) ≤ 396800 }
     ensures { page out.new result ≡ puts (page out.old 0) (drained_sheet list.now (counts all)) }
 {
     let headed = put_text(out, 0, b"packet hops moves\n");

@@ -69,7 +69,7 @@ pub fn turn_at(words: &[u16], n: usize, t: usize) -> Turn
     requires words_len { length words.now ≡ n + n + n }
     requires t_bound { t < 384 + n }
     requires n_bound { n < 65536 }
-    requires t_bound_2 { owner_of (sections n words.now) (t - 384) < 257 }
+    requires owner_bound { owner_of (sections n words.now) (t - 384) < 257 }
     ensures { move_of result ≡ turn 64 n words.now t }
 {
     if t < OWN_TURNS * RECORDS {
@@ -125,7 +125,7 @@ pub fn is_accepted(words: &[u16], m: Mesh, v: Turn, r: Record) -> bool
 pub fn make(words: &mut [u16], m: Mesh, v: Turn, c: Counted) -> Counted
     requires fitting { Fitting m c.packet }
     requires memory { Memory m words.old }
-    requires direction_value { accepted (built m) (laid m words.old) v.packet c.packet v.kind v.channel v.direction ≡ true }
+    requires accepted { accepted (built m) (laid m words.old) v.packet c.packet v.kind v.channel v.direction ≡ true }
     requires moves_bound { c.moves + 1 < 2 ^ 32 }
     ensures { record { words = laid m words.new; counted = result }
         ≡ done (built m) (laid m words.old) v c }

@@ -97,8 +97,8 @@ fn column_leads(m: Mesh, here: Place, arrival: u8, there: Place) -> bool
 // A direction's value in a set where it is in it, else 0.
 fn value_if(member: bool, direction: u8) -> u8
     requires { direction < 4 }
-    ensures fact_1 { result ≤ 8 }
-    ensures fact_2 { result ≡ pick member (2 ^ direction) 0 }
+    ensures bound { result ≤ 8 }
+    ensures value { result ≡ pick member (2 ^ direction) 0 }
 {
     if member {
         return 1 << direction;

@@ -52,8 +52,8 @@ fn bit_at(word: u16, place: u8) -> bool
 fn turn_bit(from: u8, to: u8) -> u8
     requires from_bound { from < 4 }
     requires to_bound { to < 4 }
-    ensures fact_1 { result < 8 }
-    ensures fact_2 { result ≡ bit (turned (dir_of from) (dir_of to)) }
+    ensures bound { result < 8 }
+    ensures value { result ≡ bit (turned (dir_of from) (dir_of to)) }
 {
     4 * (1 - from / 2) + 2 * ((from + 1) % 2) + (to + 1) % 2
 }
@@ -61,8 +61,8 @@ fn turn_bit(from: u8, to: u8) -> u8
 // The direction opposite to one.
 fn opposite(direction: u8) -> u8
     requires { direction < 4 }
-    ensures fact_1 { result < 4 }
-    ensures fact_2 { result ≡ number (back (dir_of direction)) }
+    ensures bound { result < 4 }
+    ensures value { result ≡ number (back (dir_of direction)) }
 {
     2 * (direction / 2) + (direction + 1) % 2
 }
@@ -86,7 +86,7 @@ impl Mesh {
     pub fn hop(self, here: Place, direction: u8) -> Place
         requires direction_bound { direction < 4 }
         requires inside { Inside (meant self) here }
-        requires direction_value { exists (meant self) here (dir_of direction) ≡ true }
+        requires exists { exists (meant self) here (dir_of direction) ≡ true }
         ensures { result ≡ hop (dir_of direction) here }
     {
         let column = here.column.0;

@@ -57,8 +57,8 @@ fn gap(a: u8, b: u8) -> u8
 
 // 1 if the way from a coordinate to another leads up, 0 if it leads down or nowhere.
 fn up(from: u8, to: u8) -> u8
-    ensures fact_1 { result < 2 }
-    ensures fact_2 { result ≡ pick (ltb from to) 1 0 }
+    ensures bound { result < 2 }
+    ensures value { result ≡ pick (ltb from to) 1 0 }
 {
     if from < to {
         return 1;

@@ -105,7 +105,7 @@ fn packet_of(bytes: &[u8], columns: u8, rows: u8, i: usize) -> Record
 // The record of packet i of a list, an empty one past the last.
 pub fn packet_at(list: &[u8], columns: u8, rows: u8, i: usize) -> Record
     requires in_bounds { 2 ≤ length list.now }
-    requires list_value { bad_headers columns rows (after_lead list.now) ≡ 0 }
+    requires headers_served { bad_headers columns rows (after_lead list.now) ≡ 0 }
     ensures { result ≡ get_or (packets columns (after_lead list.now)) i none }
 {
     packet_of(&list[2..], columns, rows, i)

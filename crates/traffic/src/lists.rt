@@ -45,8 +45,8 @@ pub fn lead_of(list: &[u8]) -> Lead
 // How many packets a list has.
 pub fn packets_of(list: &[u8]) -> usize
     requires { listed (length list.now) ≡ true }
-    ensures fact_1 { result ≡ length (after_lead list.now) }
-    ensures fact_2 { result ≤ 64 }
+    ensures value { result ≡ length (after_lead list.now) }
+    ensures bound { result ≤ 64 }
 {
     (list.len() - 2) / 3
 }

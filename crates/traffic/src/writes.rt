@@ -91,7 +91,7 @@ fn node_byte(columns: u8, rows: u8, node: u16) -> u8
 fn put_record(out: &mut [u8], end: usize, columns: u8, rows: u8, r: Record) -> usize
     requires columns_bound { columns ≤ 16 }
     requires rows_bound { rows ≤ 16 }
-    requires r_value { record_fits (sides columns rows) r ≡ true }
+    requires fits { record_fits (sides columns rows) r ≡ true }
     ensures { page out.new result ≡ puts (page out.old end) (record_bytes columns r) }
 {
     if r.live == 0 {

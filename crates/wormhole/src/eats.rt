@@ -44,7 +44,7 @@ fn finish(r: Record, released: Record) -> Record
 pub fn eat(words: &mut [u16], m: Mesh, r: Record) -> Record
     requires packet { Packet m r }
     requires memory { Memory m words.old }
-    requires r_value { may_eat (built m) (laid m words.old) r ≡ true }
+    requires may { may_eat (built m) (laid m words.old) r ≡ true }
     ensures { stepped (laid m words.new) result
         ≡ eat (laid m words.old) r }
 {

@@ -26,7 +26,7 @@ pub fn may_feed(words: &[u16], m: Mesh, r: Record) -> bool
 pub fn feed(words: &mut [u16], m: Mesh, r: Record) -> Record
     requires packet { Packet m r }
     requires memory { Memory m words.old }
-    requires r_value { may_feed (built m) (laid m words.old) r ≡ true }
+    requires may { may_feed (built m) (laid m words.old) r ≡ true }
     ensures { stepped (laid m words.new) result
         ≡ feed (laid m words.old) r }
 {

@@ -45,7 +45,7 @@ pub fn follow(words: &mut [u16], m: Mesh, r: Record, k: u16) -> Record
     requires roomy { Roomy m }
     requires memory { Memory m words.old }
     requires k_bound { k < channels m.columns m.rows }
-    requires k_value { can_follow (built m) (laid m words.old) k ≡ true }
+    requires may { can_follow (built m) (laid m words.old) k ≡ true }
     ensures { stepped (laid m words.new) result
         ≡ follow (laid m words.old) r k }
 {

@@ -24,10 +24,10 @@ pub struct Header {
 // The header of a packet: at its source, or at the end of its front channel.
 pub fn header_of(m: Mesh, r: Record) -> Header
     requires { Packet m r }
-    ensures fact_1 { result.place ≡ head (meant m) r }
-    ensures fact_2 { arrival_of result.arrival ≡ arrival r }
-    ensures fact_3 { result.arrival < 5 }
-    ensures fact_4 { Inside (meant m) result.place }
+    ensures place { result.place ≡ head (meant m) r }
+    ensures arrival { arrival_of result.arrival ≡ arrival r }
+    ensures arrival_bound { result.arrival < 5 }
+    ensures inside { Inside (meant m) result.place }
 {
     if r.front == 0 {
         return Header {
@@ -74,8 +74,8 @@ fn is_open(m: Mesh, r: Record, direction: u8) -> bool
 fn ahead(m: Mesh, r: Record, direction: u8) -> u16
     requires packet { Packet m r }
     requires direction_bound { direction < 4 }
-    ensures fact_1 { result ≡ ahead (meant m) r direction }
-    ensures fact_2 { result < channels m.columns m.rows }
+    ensures value { result ≡ ahead (meant m) r direction }
+    ensures bound { result < channels m.columns m.rows }
 {
     let start = header_of(m, r).place;
     let channel = Channel {
@@ -150,7 +150,7 @@ pub fn lead(words: &mut [u16], m: Mesh, i: u8, r: Record, direction: u8) -> Reco
     requires packet { Packet m r }
     requires memory { Memory m words.old }
     requires direction_bound { direction < 4 }
-    requires direction_value { may_lead (built m) (laid m words.old) r direction ≡ true }
+    requires may { may_lead (built m) (laid m words.old) r direction ≡ true }
     ensures { stepped (laid m words.new) result
         ≡ lead (built m) (laid m words.old) i r direction }
 {

@@ -18,8 +18,8 @@ pub const MOST_FLITS: u8 = 200;
 
 // How many numbers of channels there are: four a node.
 pub fn channels_of(columns: u8, rows: u8) -> usize
-    ensures fact_1 { result ≡ channels columns rows }
-    ensures fact_2 { result ≤ 260100 }
+    ensures value { result ≡ channels columns rows }
+    ensures bound { result ≤ 260100 }
 {
     4 * ((columns as usize) * (rows as usize))
 }

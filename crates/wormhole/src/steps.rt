@@ -59,7 +59,7 @@ pub fn may_move(
 ) -> bool
     requires fitting { Fitting m r }
     requires memory { Memory m words.now }
-    requires direction_value { known (meant m) kind channel direction ≡ true }
+    requires known { known (meant m) kind channel direction ≡ true }
     ensures { result ≡ allowed (built m) (laid m words.now) i r kind channel direction }
 {
     if r.live != 1 {
@@ -89,8 +89,8 @@ pub fn act(
 ) -> Record
     requires packet { Packet m r }
     requires memory { Memory m words.old }
-    requires direction_value { known (meant m) kind channel direction ≡ true }
-    requires direction_value_2 { may (built m) (laid m words.old) i r kind channel direction ≡ true }
+    requires known { known (meant m) kind channel direction ≡ true }
+    requires allowed { may (built m) (laid m words.old) i r kind channel direction ≡ true }
     ensures { stepped (laid m words.new) result
         ≡ act (built m) (laid m words.old) i r kind channel direction }
 {

@@ -15,7 +15,7 @@ pub zero-requires : goal.zero-requires
 zero-requires c = tt
 
 pub load-all-requires : goal.load-all-requires
-load-all-requires c = record { in_bounds = search two_bytes; list_value = search good_packets; list_len_bound = search few_packets }
+load-all-requires c = record { in_bounds = search two_bytes; headers_served = search good_packets; few = search few_packets }
 
 pub loop-sweeps-init : goal.loop-sweeps-init
 loop-sweeps-init c = (omega arith, (search begins, (refl, refl)))
@@ -47,7 +47,7 @@ returns-then-total_of-before c =
     let m = c.lead_of-lead.result in
     let s = c.sweep-swept in
     let S = tally l.words l.all in
-    ends c.args.list.now c.args.words.now c.requires y.result y.ensures z.new.words p.result z.ensures p.ensures.fact_1 p.ensures.fact_2
+    ends c.args.list.now c.args.words.now c.requires y.result y.ensures z.new.words p.result z.ensures p.ensures.packets p.ensures.none_counted
     (settled m.columns m.rows m.rule S l.invariant.1.0 s.new.words s.result s.ensures l.sweeps (omega arith) c.total_of-before.ensures c.total_of.ensures (omega arith) ∙ l.invariant.1.1.1)
 
 pub loop-sweeps-preserved : goal.loop-sweeps-preserved
@@ -76,5 +76,5 @@ returns c =
     let p = c.load-all in
     let l = c.loop-sweeps in
     let m = y.result in
-    ends c.args.list.now c.args.words.now c.requires y.result y.ensures z.new.words p.result z.ensures p.ensures.fact_1 p.ensures.fact_2
+    ends c.args.list.now c.args.words.now c.requires y.result y.ensures z.new.words p.result z.ensures p.ensures.packets p.ensures.none_counted
     (run_out m.columns m.rows m.rule (tally l.words l.all) l.sweeps (omega arith) ∙ l.invariant.1.1.1)

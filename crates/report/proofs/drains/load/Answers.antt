@@ -15,4 +15,4 @@ pub loop-i-preserved : goal.loop-i-preserved
 loop-i-preserved c = (search rules, (search one_loaded, search still_none))
 
 pub returns : goal.returns
-returns c = record { fact_1 = search all_loaded; fact_2 = search rules }
+returns c = record { packets = search all_loaded; none_counted = search rules }

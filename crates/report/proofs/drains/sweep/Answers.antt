@@ -24,7 +24,7 @@ unfolding turns
 loop-t-init c = (omega arith, refl)
 
 pub turn_at-v-requires : goal.turn_at-v-requires
-turn_at-v-requires c = record { words_len = search turn_long; t_bound = search rules; n_bound = search turn_few; t_bound_2 = search turn_owner }
+turn_at-v-requires c = record { words_len = search turn_long; t_bound = search rules; n_bound = search turn_few; owner_bound = search turn_owner }
 
 pub is_owned-requires : goal.is_owned-requires
 is_owned-requires c = record { words_len = search turn_long; channel_lt_n = search turn_channel }
@@ -38,7 +38,7 @@ loop-t-preserved-then-not-is_owned c =
     let low : l.t < 384 + n.result = c.loop-t-test.true in
     let v = c.turn_at-v in
     let o = c.is_owned in
-    (omega (arith, low), turn_unowned a.columns a.rows a.rule a.words.now a.packets c.requires l.t l.words l.all l.invariant.1 n.result n.ensures.fact_1 low v.result v.ensures m.result m.ensures o.ensures c.if-not-is_owned.true-raw)
+    (omega (arith, low), turn_unowned a.columns a.rows a.rule a.words.now a.packets c.requires l.t l.words l.all l.invariant.1 n.result n.ensures.value low v.result v.ensures m.result m.ensures o.ensures c.if-not-is_owned.true-raw)
 
 pub bounds-all-i : goal.bounds-all-i
 bounds-all-i c = search turn_packet
@@ -51,7 +51,7 @@ is_accepted-requires c =
     let l = c.loop-t in
     let low : l.t < 384 + n.result = c.loop-t-test.true in
     let v = c.turn_at-v in
-    record { fitting = search turn_fitting; memory = turn_memory a.columns a.rows a.rule a.words.now a.packets c.requires l.t l.words l.all l.invariant.1 n.result n.ensures.fact_1 low v.result v.ensures empty m.result m.ensures; tryable = search turn_tryable }
+    record { fitting = search turn_fitting; memory = turn_memory a.columns a.rows a.rule a.words.now a.packets c.requires l.t l.words l.all l.invariant.1 n.result n.ensures.value low v.result v.ensures empty m.result m.ensures; tryable = search turn_tryable }
 
 pub make-requires : goal.make-requires
 make-requires c =
@@ -62,7 +62,7 @@ make-requires c =
     let low : l.t < 384 + n.result = c.loop-t-test.true in
     let v = c.turn_at-v in
     let b = c.is_accepted in
-    record { fitting = search turn_fitting; memory = turn_memory a.columns a.rows a.rule a.words.now a.packets c.requires l.t l.words l.all l.invariant.1 n.result n.ensures.fact_1 low v.result v.ensures empty m.result m.ensures; direction_value = sym b.ensures ∙ c.if-is_accepted.true; moves_bound = search turn_count }
+    record { fitting = search turn_fitting; memory = turn_memory a.columns a.rows a.rule a.words.now a.packets c.requires l.t l.words l.all l.invariant.1 n.result n.ensures.value low v.result v.ensures empty m.result m.ensures; accepted = sym b.ensures ∙ c.if-is_accepted.true; moves_bound = search turn_count }
 
 pub bounds-all-i-then-is_accepted : goal.bounds-all-i-then-is_accepted
 bounds-all-i-then-is_accepted c =
@@ -72,7 +72,7 @@ bounds-all-i-then-is_accepted c =
     let l = c.loop-t in
     let low : l.t < 384 + n.result = c.loop-t-test.true in
     let v = c.turn_at-v in
-    turn_packet a.columns a.rows a.rule a.words.now a.packets c.requires l.t l.words l.all l.invariant.1 n.result n.ensures.fact_1 low v.result v.ensures
+    turn_packet a.columns a.rows a.rule a.words.now a.packets c.requires l.t l.words l.all l.invariant.1 n.result n.ensures.value low v.result v.ensures
 
 pub loop-t-preserved-then-is_accepted : goal.loop-t-preserved-then-is_accepted
 loop-t-preserved-then-is_accepted c =
@@ -84,7 +84,7 @@ loop-t-preserved-then-is_accepted c =
     let v = c.turn_at-v in
     let b = c.is_accepted in
     let r = c.make in
-    (omega (arith, low), turn_made a.columns a.rows a.rule a.words.now a.packets c.requires l.t l.words l.all l.invariant.1 n.result n.ensures.fact_1 low v.result v.ensures empty m.result m.ensures b.ensures c.if-is_accepted.true r.new.words r.result r.ensures)
+    (omega (arith, low), turn_made a.columns a.rows a.rule a.words.now a.packets c.requires l.t l.words l.all l.invariant.1 n.result n.ensures.value low v.result v.ensures empty m.result m.ensures b.ensures c.if-is_accepted.true r.new.words r.result r.ensures)
 
 pub loop-t-preserved : goal.loop-t-preserved
 loop-t-preserved c =
@@ -95,7 +95,7 @@ loop-t-preserved c =
     let low : l.t < 384 + n.result = c.loop-t-test.true in
     let v = c.turn_at-v in
     let b = c.is_accepted in
-    (omega (arith, low), turn_kept a.columns a.rows a.rule a.words.now a.packets c.requires l.t l.words l.all l.invariant.1 n.result n.ensures.fact_1 low v.result v.ensures empty m.result m.ensures b.ensures c.if-is_accepted.false)
+    (omega (arith, low), turn_kept a.columns a.rows a.rule a.words.now a.packets c.requires l.t l.words l.all l.invariant.1 n.result n.ensures.value low v.result v.ensures empty m.result m.ensures b.ensures c.if-is_accepted.false)
 
 pub shape_of-words : goal.shape_of-words
 shape_of-words c = search sweep_length

@@ -18,7 +18,7 @@ pub returns-then-not-is_idle : goal.returns-then-not-is_idle
 returns-then-not-is_idle c = search prints_stalled
 
 pub put_sheet-requires : goal.put_sheet-requires
-put_sheet-requires c = record { list_value = search listed_so; all_bound = search few_drained }
+put_sheet-requires c = record { listed = search listed_so; few = search few_drained }
 
 pub returns : goal.returns
 returns c = search prints_drained

@@ -7,7 +7,7 @@ pub returns-then-v-eq-FOLLOW : goal.returns-then-v-eq-FOLLOW
 returns-then-v-eq-FOLLOW c = search as_follow
 
 pub may_move-requires : goal.may_move-requires
-may_move-requires c = record { fitting = search rules; memory = search rules; direction_value = search other_known }
+may_move-requires c = record { fitting = search rules; memory = search rules; known = search other_known }
 
 pub returns : goal.returns
 returns c = search other_asked

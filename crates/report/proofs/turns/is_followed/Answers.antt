@@ -7,7 +7,7 @@ pub returns-then-not-is_channel : goal.returns-then-not-is_channel
 returns-then-not-is_channel c = search nowhere_refused
 
 pub may_move-requires : goal.may_move-requires
-may_move-requires c = record { fitting = search rules; memory = search rules; direction_value = search follow_known }
+may_move-requires c = record { fitting = search rules; memory = search rules; known = search follow_known }
 
 pub returns : goal.returns
 returns c = search follow_asked

@@ -6,7 +6,7 @@ use Rattle.report.proofs.Turning.{make_known, make_live, make_may, made_counted}
 use Rattle.report.proofs.turns.make.Goals as goal
 
 pub act-packet-requires : goal.act-packet-requires
-act-packet-requires c = record { packet = record { fitting = search rules; live = search make_live }; memory = search rules; direction_value = search make_known; direction_value_2 = search make_may }
+act-packet-requires c = record { packet = record { fitting = search rules; live = search make_live }; memory = search rules; known = search make_known; allowed = search make_may }
 
 pub returns : goal.returns
 returns c =

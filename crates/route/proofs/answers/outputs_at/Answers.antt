@@ -12,5 +12,5 @@ returns-then-is c = rw (sym c.is.ensures ∙ c.if-is.true) refl
 pub returns : goal.returns
 returns c =
     let led = c.course_to-c.ensures in
-    rw (c.value_if-along_column.ensures.fact_2, c.value_if-along_row.ensures.fact_2, c.column_leads.ensures, c.row_leads.ensures)
+    rw (c.value_if-along_column.ensures.value, c.value_if-along_row.ensures.value, c.column_leads.ensures, c.row_leads.ensures)
     (set_is _ _ _ _ (search rules) led (sym c.is.ensures ∙ c.if-is.false))

@@ -7,4 +7,4 @@ use Rattle.route.proofs.answers.value_if.Goals as goal
 pub returns-then-member : goal.returns-then-member
 returns-then-member c =
     let s = shifted c.args.direction (omega arith) in
-    record { fact_1 = s.0; fact_2 = s.1 ∙ rw c.if-member.true refl }
+    record { bound = s.0; value = s.1 ∙ rw c.if-member.true refl }

@@ -29,7 +29,7 @@ returns-then-not-exists c =
 pub hop-start-requires : goal.hop-start-requires
 hop-start-requires c =
     let x = c.args in
-    record { direction_bound = omega arith; inside = rw c.channel_of-from.ensures.0 (start_inside (meant x.m) x.incoming (omega arith)); direction_value = yes_if_not c.exists.ensures c.if-not-exists.false-raw }
+    record { direction_bound = omega arith; inside = rw c.channel_of-from.ensures.0 (start_inside (meant x.m) x.incoming (omega arith)); exists = yes_if_not c.exists.ensures c.if-not-exists.false-raw }
 
 pub loop-way-init : goal.loop-way-init
 loop-way-init c =

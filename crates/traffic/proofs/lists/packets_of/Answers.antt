@@ -13,4 +13,4 @@ pub returns : goal.returns
 returns c =
     let l = c.args.list.now in
     let k = listing (length l) c.requires in
-    record { fact_1 = sym (length_headers (drop 2 l) ∙ rw (length-drop 2 l) refl); fact_2 = omega arith }
+    record { value = sym (length_headers (drop 2 l) ∙ rw (length-drop 2 l) refl); bound = omega arith }

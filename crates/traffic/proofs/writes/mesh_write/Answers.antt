@@ -17,7 +17,7 @@ put_record-end-requires c =
     rw c.survey-found.ensures at b.ensures in
     let can : Writing x.columns x.rows c.record_at-r.result =
     rw c.record_at-r.ensures (begins_writing x.columns x.rows x.rule x.words.now x.records.now x.out.now (omega (arith, ap (λ (s : Start). s.count) begun))) in
-    record { columns_bound = can.columns; rows_bound = can.rows; r_value = can.fits }
+    record { columns_bound = can.columns; rows_bound = can.rows; fits = can.fits }
 
 pub loop-i-preserved : goal.loop-i-preserved
 loop-i-preserved c =

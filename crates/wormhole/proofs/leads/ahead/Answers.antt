@@ -9,10 +9,10 @@ number-requires c =
     let x = c.args in
     let t : Told x.m x.r = search tells in
     let h = c.header_of.ensures in
-    record { way_bound = omega arith; start_bound = node_low x.m x.r x.direction _ h.fact_4 t }
+    record { way_bound = omega arith; start_bound = node_low x.m x.r x.direction _ h.inside t }
 
 pub returns : goal.returns
 returns c =
     let x = c.args in
     let h = c.header_of.ensures in
-    record { fact_1 = ahead_is x.m x.r x.direction _ h.fact_4 _ c.number.ensures h.fact_1; fact_2 = ahead_low x.m x.r x.direction _ h.fact_4 _ c.number.ensures }
+    record { value = ahead_is x.m x.r x.direction _ h.inside _ c.number.ensures h.place; bound = ahead_low x.m x.r x.direction _ h.inside _ c.number.ensures }

@@ -18,7 +18,7 @@ returns-then-r-eq0 c =
     let x = c.args in
     let t : Told x.m x.r = search tells in
     let e = c.if-r-eq0.true in
-    record { fact_1 = source_place x.m x.r e _ c.place_of.ensures; fact_2 = source_arrival x.m x.r e; fact_3 = omega arith; fact_4 = rw c.place_of.ensures (place_inside (meant x.m) x.r.source t.source) }
+    record { place = source_place x.m x.r e _ c.place_of.ensures; arrival = source_arrival x.m x.r e; arrival_bound = omega arith; inside = rw c.place_of.ensures (place_inside (meant x.m) x.r.source t.source) }
 
 pub channel_of-channel-requires : goal.channel_of-channel-requires
 channel_of-channel-requires c =
@@ -32,7 +32,7 @@ hop-requires c =
     let x = c.args in
     let t : Told x.m x.r = search tells in
     let b = c.channel_of-channel.ensures in
-    record { direction_bound = b.2; inside = front_start x.m x.r t (search rules) _ _ b.0 b.1; direction_value = front_exists x.m x.r t (search rules) _ _ b.0 b.1 }
+    record { direction_bound = b.2; inside = front_start x.m x.r t (search rules) _ _ b.0 b.1; exists = front_exists x.m x.r t (search rules) _ _ b.0 b.1 }
 
 pub returns : goal.returns
 returns c =
@@ -40,4 +40,4 @@ returns c =
     let t : Told x.m x.r = search tells in
     let b = c.channel_of-channel.ensures in
     let e = c.if-r-eq0.false in
-    record { fact_1 = front_place x.m x.r t e _ _ b.0 b.1 _ c.hop.ensures; fact_2 = front_arrival x.m x.r t e _ _ b.0 b.1 b.2; fact_3 = omega arith; fact_4 = front_end x.m x.r t e _ _ b.0 b.1 _ c.hop.ensures }
+    record { place = front_place x.m x.r t e _ _ b.0 b.1 _ c.hop.ensures; arrival = front_arrival x.m x.r t e _ _ b.0 b.1 b.2; arrival_bound = omega arith; inside = front_end x.m x.r t e _ _ b.0 b.1 _ c.hop.ensures }

@@ -22,7 +22,7 @@ may_move-requires c =
     let x = c.args in
     let hc = c.bad_memory-refusal.ensures in
     let em = c.mesh_of-m.ensures in
-    record { fitting = record_served x.columns x.rows x.rule x.words.now x.fit x.count hc (omega arith) _ em x.r c.requires; memory = memory_served x.columns x.rows x.rule x.words.now x.fit x.count hc (omega arith) _ em; direction_value = kind_served x.columns x.rows x.rule x.words.now x.fit x.count hc (omega arith) _ em x.«record» x.kind x.channel x.direction c.is_known.ensures c.if-not-is_known.false-raw }
+    record { fitting = record_served x.columns x.rows x.rule x.words.now x.fit x.count hc (omega arith) _ em x.r c.requires; memory = memory_served x.columns x.rows x.rule x.words.now x.fit x.count hc (omega arith) _ em; known = kind_served x.columns x.rows x.rule x.words.now x.fit x.count hc (omega arith) _ em x.«record» x.kind x.channel x.direction c.is_known.ensures c.if-not-is_known.false-raw }
 
 pub returns-then-not-may_move : goal.returns-then-not-may_move
 returns-then-not-may_move c =
@@ -36,7 +36,7 @@ act-packet-requires c =
     let hc = c.bad_memory-refusal.ensures in
     let em = c.mesh_of-m.ensures in
     let ok = c.may_move.ensures in
-    record { packet = record { fitting = record_served x.columns x.rows x.rule x.words.now x.fit x.count hc (omega arith) _ em x.r c.requires; live = allowed_live (built m) (laid m x.words.now) x.«record» x.r x.channel x.direction x.kind ok c.if-not-may_move.false-raw }; memory = memory_served x.columns x.rows x.rule x.words.now x.fit x.count hc (omega arith) _ em; direction_value = kind_served x.columns x.rows x.rule x.words.now x.fit x.count hc (omega arith) _ em x.«record» x.kind x.channel x.direction c.is_known.ensures c.if-not-is_known.false-raw; direction_value_2 = allowed_may (built m) (laid m x.words.now) x.«record» x.r x.channel x.direction x.kind ok c.if-not-may_move.false-raw }
+    record { packet = record { fitting = record_served x.columns x.rows x.rule x.words.now x.fit x.count hc (omega arith) _ em x.r c.requires; live = allowed_live (built m) (laid m x.words.now) x.«record» x.r x.channel x.direction x.kind ok c.if-not-may_move.false-raw }; memory = memory_served x.columns x.rows x.rule x.words.now x.fit x.count hc (omega arith) _ em; known = kind_served x.columns x.rows x.rule x.words.now x.fit x.count hc (omega arith) _ em x.«record» x.kind x.channel x.direction c.is_known.ensures c.if-not-is_known.false-raw; allowed = allowed_may (built m) (laid m x.words.now) x.«record» x.r x.channel x.direction x.kind ok c.if-not-may_move.false-raw }
 
 pub returns : goal.returns
 returns c =

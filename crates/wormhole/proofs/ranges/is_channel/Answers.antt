@@ -9,13 +9,13 @@ returns-then-channels_of-k c = search no_number
 pub channel_of-channel-requires : goal.channel_of-channel-requires
 channel_of-channel-requires c =
     let x = c.args in
-    let low = number_low x.columns x.rows x.k _ c.channels_of.ensures.fact_1 (omega arith) (omega arith) (omega arith) in
+    let low = number_low x.columns x.rows x.k _ c.channels_of.ensures.value (omega arith) (omega arith) (omega arith) in
     record { columns_nonzero = low.0; number_bound = low.1 }
 
 pub exists-requires : goal.exists-requires
 exists-requires c =
     let x = c.args in
-    record { direction_bound = omega arith; inside = start_here x.columns x.rows x.k _ c.channels_of.ensures.fact_1 (omega arith) c.channel_of-channel.ensures.0 c.mesh_of.ensures }
+    record { direction_bound = omega arith; inside = start_here x.columns x.rows x.k _ c.channels_of.ensures.value (omega arith) c.channel_of-channel.ensures.0 c.mesh_of.ensures }
 
 pub returns : goal.returns
 returns c = search channel_here

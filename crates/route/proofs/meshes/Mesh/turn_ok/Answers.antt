@@ -24,5 +24,5 @@ returns c =
     let x = c.args in
     let t = turned (dir_of x.arrival) (dir_of x.direction) in
     c.bit_at.ensures
-    ∙ rw (c.turn_bit.ensures.fact_2, add-zero) (bit_of x.self.table (x.column.0 % 2) t (omega arith)
+    ∙ rw (c.turn_bit.ensures.value, add-zero) (bit_of x.self.table (x.column.0 % 2) t (omega arith)
     ∙ by_turn (bits x.self.table (parity x.column.0)) x.arrival x.direction (omega arith) (omega arith) (omega arith))
