@@ -1,5 +1,5 @@
 -- What a mesh that was reached has: memory of its sizes and in range, and few moves; and each try reaches on. By demand 3. Assumes nothing.
-use Prim.Native.Nat.{ℕ, zero, suc, ◌+◌, ◌≤◌}
+use Prim.Native.Nat.{ℕ, zero, suc, ◌≤◌}
 use mathlib.Core.Path.{◌≡◌, refl, sym, ◌∙◌, ap, subst}
 use mathlib.Core.Bool.{true, ◌&&◌}
 use mathlib.Core.List.{List, [], ◌∷◌, ◌++◌}
@@ -17,7 +17,7 @@ use Rattle.wormhole.specs.declared.records.Record.{Record}
 use Rattle.wormhole.specs.Memory.{net, depth, sections, owner_of, none}
 use Rattle.wormhole.specs.Range.{every, at_most, names, words_fit, record_fits}
 use Rattle.wormhole.specs.Calls.{needed, bad_size, bad_memory, fits}
-use Rattle.wormhole.specs.Drains.{Lent, Move, moving, any, brings, makes, total, after, run, now, made, empty, Drains}
+use Rattle.wormhole.specs.Drains.{Lent, Move, moving, any, brings, makes, total, after, run, now, empty, Drains}
 use Rattle.wormhole.specs.Coded.{Fitting, Memory}
 use Rattle.wormhole.proofs.Every.{both, every_at}
 use Rattle.wormhole.proofs.AnyRule.{same_record}

@@ -8,7 +8,6 @@ use lib.ListN.{length, replicate, length-replicate}
 use borrow.Author.Tests.{eq-eqb, ne_eqb}
 use Rattle.route.specs.Grid.{pick}
 use Rattle.wormhole.specs.Memory.{none}
-use Rattle.wormhole.specs.Drains.{made}
 use Rattle.traffic.specs.declared.lists.Lead.{Lead}
 use Rattle.traffic.specs.Lists.{lead, after_lead, bad_headers, packets}
 use Rattle.traffic.specs.Calls.{bad_read, read, filled, offerings}

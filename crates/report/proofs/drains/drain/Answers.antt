@@ -1,5 +1,4 @@
 -- What is left to sweep, of what is reached, stays what the first sweep had before it. Assumes nothing.
-use Prim.Native.Nat.{◌-◌}
 use mathlib.Core.Path.{refl, ◌∙◌}
 use native.Mathlib.Omega.{arith}
 use borrow.Author.Rules.{rules}

@@ -1,5 +1,4 @@
 -- After i turns the first i records are the list's. Assumes nothing.
-use Prim.Native.Nat.{◌-◌}
 use native.Mathlib.Omega.{arith}
 use borrow.Author.Rules.{rules}
 use Rattle.report.proofs.Loading.{none_loaded, none_counted, one_loaded, still_none, all_loaded}

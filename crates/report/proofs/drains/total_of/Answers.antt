@@ -1,5 +1,4 @@
 -- The counts from i on are still to be added; each turn adds one more. Assumes nothing.
-use Prim.Native.Nat.{◌-◌}
 use native.Mathlib.Omega.{arith}
 use borrow.Author.Rules.{rules}
 use Rattle.wormhole.specs.Memory.{none}

@@ -1,5 +1,4 @@
 -- The lines from packet i on are still to be put; each turn puts one more. Assumes nothing.
-use Prim.Native.Nat.{◌-◌}
 use mathlib.Core.Path.{refl}
 use native.Mathlib.Omega.{arith}
 use lib.ListN.{length, get_or}

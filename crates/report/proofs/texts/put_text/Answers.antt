@@ -1,5 +1,4 @@
 -- The bytes from i on are still to be put; each turn puts one more. Assumes nothing.
-use Prim.Native.Nat.{◌-◌}
 use mathlib.Core.Path.{refl}
 use native.Mathlib.Omega.{arith}
 use borrow.Author.Rules.{rules}

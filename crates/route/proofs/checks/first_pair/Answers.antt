@@ -1,5 +1,4 @@
 -- The channels upward: from none that was passed over do the numbers fall. Assumes nothing.
-use Prim.Native.Nat.{◌-◌}
 use mathlib.Core.Path.{◌∙◌}
 use native.Mathlib.Omega.{arith}
 use Rattle.route.proofs.Nodes.{words_fit}

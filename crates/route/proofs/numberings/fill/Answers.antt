@@ -1,5 +1,4 @@
 -- What is filled are the numbers of the channels so far, and the rest is as it was. Assumes nothing.
-use Prim.Native.Nat.{◌-◌}
 use native.Mathlib.Omega.{arith}
 use lib.ListN.{length-set}
 use borrow.Author.Rules.{rules}

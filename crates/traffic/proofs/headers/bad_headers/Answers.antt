@@ -1,5 +1,4 @@
 -- The headers before byte `at` are not refused; each turn asks one more. Assumes nothing.
-use Prim.Native.Nat.{◌-◌}
 use mathlib.Core.Path.{refl}
 use native.Mathlib.Omega.{arith}
 use borrow.Author.Rules.{rules}

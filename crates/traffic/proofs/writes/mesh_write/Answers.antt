@@ -1,7 +1,6 @@
 -- A turn writes one more record, which can be written; after them what the parts leave is the whole. Assumes nothing.
-use Rattle.std.proofs.Common.{◌≡◌, ◌∙◌, ap, refl, arith, length}
-use Rattle.wormhole.specs.Coded.{surveyed}
-use Rattle.traffic.specs.Coded.{Page, page, Start, start, starts}
+use Rattle.std.proofs.Common.{◌≡◌, ap, refl, arith}
+use Rattle.traffic.specs.Coded.{Page, page, Start, start}
 use Rattle.traffic.proofs.Whole.{wrote, wrote_more, Writing, begins, begins_writing, ends, whole_write}
 use Rattle.traffic.proofs.writes.mesh_write.Goals as goal
 

@@ -1,5 +1,5 @@
 -- A turn sees one more record. Assumes nothing.
-use Rattle.std.proofs.Common.{◌≡◌, ◌∙◌, ap, refl, arith, add-one, length}
+use Rattle.std.proofs.Common.{◌≡◌, ◌∙◌, ap, arith, length}
 use Rattle.wormhole.specs.Coded.{surveyed}
 use Rattle.wormhole.proofs.Seeing.{surveyed_more}
 use Rattle.wormhole.proofs.surveys.survey.Goals as goal
