@@ -21,16 +21,16 @@ use Rattle.route.proofs.Exact.{in_answer}
 use Rattle.route.proofs.Outputs.{empty_set}
 use Rattle.route.proofs.Accepts.{rising, accepted}
 use Rattle.route.proofs.Open.{open_way}
--- for every turn table: a direction is in the answer exactly if some shortest legal path begins with it (by-paths); no legal path is
--- shorter than the distance (none-shorter); two places are one exactly if their distance is 0 (home)
+-- for every turn table: a direction is in the answer exactly if some shortest legal path begins with it (by_paths); no legal path is
+-- shorter than the distance (none_shorter); two places are one exactly if their distance is 0 (home)
 pub use Rattle.route.proofs.Shortest.{by_paths, none_shorter, home}
--- the channel that has the number of a place and a direction leaves that place by that direction (channel-start, channel-way); the places of
--- numbers below their count, and the ends of channels that exist, lie in the mesh (place_inside, start-inside, hop-inside, end-inside), and have such
--- numbers (node-below, channel-below, dir-below of a direction); the direction of a direction's number is that direction (dir-of-number); what it is
--- to be a channel (channel-is)
+-- the channel that has the number of a place and a direction leaves that place by that direction (channel_start, channel_way); the places of
+-- numbers below their count, and the ends of channels that exist, lie in the mesh (place_inside, start_inside, hop_inside, end_inside), and have such
+-- numbers (node_below, channel_below, dir_below of a direction); the direction of a direction's number is that direction (dir_of_number); what it is
+-- to be a channel (channel_is)
 pub use Rattle.route.proofs.Nodes.{channel_start, channel_way, place_inside, start_inside, hop_inside, end_inside, node_below, channel_below, dir_below, channel_is}
 pub use Rattle.route.proofs.Codes.{dir_of_number}
--- sides of a byte have a product of two (bytes_fit), and sides up to 64 numbers of channels that fit a word (words-fit); a mesh that no call
+-- sides of a byte have a product of two (bytes_fit), and sides up to 64 numbers of channels that fit a word (words_fit); a mesh that no call
 -- refuses has these sides and rule (Served, served), and a refusal is given as it is (refuses)
 pub use Rattle.route.proofs.Nodes.{bytes_fit, words_fit}
 pub use Rattle.route.proofs.Unless.{Served, served, refuses}
@@ -38,9 +38,9 @@ pub use Rattle.route.proofs.Unless.{Served, served, refuses}
 -- pair falls and none before it does (First, first)
 pub use Rattle.route.proofs.Accepts.{Rising, First, first}
 -- for the five rules, all sizes and either parity of the first column: the house numbers rise from every channel to every one that may be
--- used next, turns and straight runs alike (rises, by places; house-rises, by numbers of channels; list-rises, in the list); none reaches
--- twice the product of the sides, each longer by one (bounded, house-bounded); and the check accepts what the numbering call wrote
--- (house-accepted)
+-- used next, turns and straight runs alike (rises, by places; house_rises, by numbers of channels; list_rises, in the list); none reaches
+-- twice the product of the sides, each longer by one (bounded, house_bounded); and the check accepts what the numbering call wrote
+-- (house_accepted)
 pub use Rattle.route.proofs.Rises.{rises, bounded}
 pub use Rattle.route.proofs.Accepts.{house_rises, list_rises, house_bounded, house_accepted}
 
