@@ -31,24 +31,24 @@ module _ (bs w : List ℕ) (count : ℕ) {k : ℕ} (hk : k ≡ bad_read bs (leng
 
   -- what is not refused by 12 has the length of a list
   module _ (h : k ≡ 12 → ⊥) where
-    is-long : listed (length bs) ≡ true
-    is-long = by (listed (length bs)) refl
+    is_long : listed (length bs) ≡ true
+    is_long = by (listed (length bs)) refl
       where
         by : (b : Bool) → listed (length bs) ≡ b → b ≡ true
         by true e = refl
         by false e = absurd (h (hk ∙ rw e refl))
 
-    has-lead : 2 ≤ length bs
-    has-lead = (listing (length bs) is-long).some
+    has_lead : 2 ≤ length bs
+    has_lead = (listing (length bs) is_long).some
 
 pub returns-then-refusal-ne0 : goal.returns-then-refusal-ne0
 returns-then-refusal-ne0 c = let off : c.bad_read-refusal.result ≡ 0 → ⊥ = omega arith in (search refused, search kept)
 
 pub lead_of-lead-requires : goal.lead_of-lead-requires
-lead_of-lead-requires c = let off : c.bad_read-refusal.result ≡ 12 → ⊥ = omega arith in search has-lead
+lead_of-lead-requires c = let off : c.bad_read-refusal.result ≡ 12 → ⊥ = omega arith in search has_lead
 
 pub packets_of-requires : goal.packets_of-requires
-packets_of-requires c = let off : c.bad_read-refusal.result ≡ 12 → ⊥ = omega arith in search is-long
+packets_of-requires c = let off : c.bad_read-refusal.result ≡ 12 → ⊥ = omega arith in search is_long
 
 pub returns : goal.returns
 returns c = let on : c.bad_read-refusal.result ≡ 0 = omega arith in (search answered, search emptied)

@@ -25,20 +25,20 @@ module _ (p : Page) (C : ℕ) (r : Record) where
       rw (ne_eqb r.live 0 h, ← ea, ← eb, ← ek) (put_last p₂ k e₃ ∙ putting p₁ b (k ∷ []) e₂ ∙ putting p a (b ∷ k ∷ []) e₁)
 
 module _ (C R : ℕ) (r : Record) (fits : record_fits (sides C R) r ≡ true) (h : r.live ≡ 0 → ⊥) where
-  source-low : r.source < C * R
-  source-low = (alive (sides C R) r fits h).source
+  source_low : r.source < C * R
+  source_low = (alive (sides C R) r fits h).source
 
-  destination-low : r.destination < C * R
-  destination-low = (alive (sides C R) r fits h).destination
+  destination_low : r.destination < C * R
+  destination_low = (alive (sides C R) r fits h).destination
 
 pub returns-then-r-eq0 : goal.returns-then-r-eq0
 returns-then-r-eq0 c = search nothing
 
 pub node_byte-requires : goal.node_byte-requires
-node_byte-requires c = search source-low
+node_byte-requires c = search source_low
 
 pub node_byte-requires-2 : goal.node_byte-requires-2
-node_byte-requires-2 c = search destination-low
+node_byte-requires-2 c = search destination_low
 
 pub overflow_sub-r : goal.overflow_sub-r
 overflow_sub-r c = let x = c.args in
