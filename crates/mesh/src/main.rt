@@ -10,13 +10,13 @@ use std::rt::Env;
 // Is the program called with the one word `run`?
 fn is_run(rt: &impl Env) -> bool {
     let mut word = [0u8; 4];
-    let n = rt.arg(1, &mut word);
-    let spelt = (word[0] == b'r') & (word[1] == b'u') & (word[2] == b'n');
-    let alone = matches!(rt.arg(2, &mut word), Err(FillError::NotPresent));
-    matches!(n, Ok(3)) & spelt & alone
+    matches!(rt.arg(1, &mut word), Ok(3))
+        && word.starts_with(b"run")
+        && matches!(rt.arg(2, &mut word), Err(FillError::NotPresent))
 }
 
 // Reads until the buffer is full or the input ends. Returns how many bytes it put at the start.
+// No method of std does so without a heap: `read_exact` fails where the input ends first.
 fn read_full<R: Read>(input: &mut R, buf: &mut [u8]) -> io::Result<usize>
     ensures { IfOk result (λ n. n ≤ length buf.new) }
 {
@@ -32,14 +32,13 @@ fn read_full<R: Read>(input: &mut R, buf: &mut [u8]) -> io::Result<usize>
 }
 
 // Prints the sheet of the list on standard input. A list has at most 194 bytes, so that one more is
-// enough to refuse whatever is longer.
+// enough to refuse whatever is longer. The bytes lent for the sheet are enough, so the call is served.
 fn run(rt: &(impl Input + Print)) -> io::Result<()> {
     let mut list = [0u8; 195];
     let n = read_full(&mut rt.reader(), &mut list)?;
     let mut words: [u16; 3072] = [0; 3072];
     let mut sheet = [0u8; 1024];
-    let written = report::mesh_report(&list[..n], &mut words, &mut sheet);
-    let length = written.length as usize;
+    let length = report::mesh_report(&list[..n], &mut words, &mut sheet).unwrap() as usize;
     io::writer(rt).write_all(&sheet[..length])
 }
 

@@ -3,7 +3,8 @@ use Prim.Native.Nat.{ℕ, zero, suc, ◌+◌, ◌≤◌, ◌<◌}
 use mathlib.Core.Path.{◌≡◌, refl, ap}
 use mathlib.Core.List.{List, [], ◌∷◌, map}
 use native.Mathlib.Omega.{arith}
-use lib.ListN.{length, set, get_or, replicate}
+use lib.ListN.{length, set, get_or, take, replicate}
+use Rattle.std.proofs.Common.{length-take, get_or-take}
 use Rattle.wormhole.specs.Memory.{none}
 use Rattle.report.specs.declared.turns.Counted.{Counted}
 use Rattle.report.specs.Sweeps.{sum}
@@ -50,6 +51,12 @@ module _ (cs : List Counted) (i : ℕ) where
   pub counts_at : (d : Counted) → i < length cs → get_or (counts cs) i 0 ≡ (get_or cs i d).moves
   unfolding counts
   counts_at d l = map_at (λ (c : Counted). c.moves) cs i 0 d l
+
+-- and where only the first n of them are looked at
+pub counts_taken : (cs : List Counted) (n i : ℕ) (d : Counted) → i < length (take n cs) → get_or (counts cs) i 0 ≡ (get_or (take n cs) i d).moves
+counts_taken cs n i d l =
+    let low : i < n = omega (arith, l, length-take n cs) in
+    rw (get_or-take n cs i d low) (counts_at cs i d (omega (arith, l, length-take n cs)))
 
 module _ (n : ℕ) (c : Counted) where
   pub recs_all : recs (replicate n c) ≡ replicate n c.packet

@@ -20,7 +20,6 @@ use Rattle.wormhole.specs.Calls.{needed, bad_size, bad_memory, fits}
 use Rattle.wormhole.specs.Drains.{Lent, Move, moving, any, brings, makes, total, after, run, now, empty, Drains}
 use Rattle.wormhole.specs.Coded.{Fitting, Memory}
 use Rattle.wormhole.proofs.Every.{both, every_at}
-use Rattle.wormhole.proofs.AnyRule.{same_record}
 use Rattle.wormhole.proofs.Refusing.{none_first, none_if}
 use Rattle.wormhole.proofs.ByKind.{record_served, memory_served}
 use Rattle.wormhole.proofs.Draining.Lists.{run_append, total_append}
@@ -73,12 +72,10 @@ module _ (C R rule : ℕ) where
 
     module _ (m : Coded) (em : meant m ≡ ruled (rule_of rule) C R 0) where
       pub memory_reached : Memory m w
-      memory_reached = memory_served C R rule w _ (length rs) fine refl m em
+      memory_reached = memory_served C R rule w rs fine m em
 
       pub record_reached : (i : ℕ) → Fitting m (get_or rs i none)
-      unfolding record_fits
-      record_reached i =
-          record_served C R rule w _ (length rs) fine refl m em (get_or rs i none) (λ e. same_record C R rule (get_or rs i none) ∙ every_at (record_fits (net C R rule).mesh) none refl rs e i)
+      record_reached i = record_served C R rule w rs fine m em i
 
     -- ---- its moves
     pub few_made : sum S.made ≤ 396800

@@ -8,24 +8,25 @@ use native.Mathlib.Omega.{arith}
 use lib.Dec.{leb, ltb, eqb}
 use lib.ListN.{length, take, drop, replicate, length-append, length-take}
 use lib.Seq.{length-take-le}
-use borrow.Author.Tests.{lt-leb, lt-ltb, le-ltb, ltb-true, ltb-false, not-true, not-false}
+use borrow.Author.Tests.{lt-ltb, le-ltb, ltb-true, ltb-false}
+use Rattle.std.specs.Prelude.{Result, Ok, Err, is_ok}
+use Rattle.route.specs.declared.refusals.Refusal.{Refusal}
 use Rattle.route.specs.Grid.{pick}
-use Rattle.route.specs.Numbers.{channels}
-use Rattle.route.specs.Served.{off_side, unless, bad_mesh}
+use Rattle.route.specs.Numbers.{channels, rule_of}
+use Rattle.route.specs.Mesh.{Mesh, ruled}
+use Rattle.route.specs.Served.{off_side, unless, bad_mesh, code}
 use Rattle.route.specs.Paths.{same_place}
-use Rattle.route.proofs.Promises.{refuses}
+use Rattle.route.proofs.Promises.{code_high, refuses_by}
 use Rattle.wormhole.specs.Memory.{none}
 use Rattle.wormhole.specs.Range.{flits_served}
 use Rattle.wormhole.specs.Calls.{needed}
 use Rattle.traffic.specs.declared.headers.Header.{Header}
-use Rattle.traffic.specs.declared.lists.Lead.{Lead}
 use Rattle.traffic.specs.declared.pages.Written.{Written}
 use Rattle.traffic.specs.Lists.{listed, lead, after_lead, outside, bad_header, bad_headers}
-use Rattle.traffic.specs.Calls.{bad_read, written, over}
+use Rattle.traffic.specs.Calls.{bad_read, written, written_of, over}
 use Rattle.traffic.specs.Coded.{Page, page, puts}
 use Rattle.traffic.proofs.Allowed.{read_answers}
 use Rattle.traffic.proofs.Putting.{puts_over}
-use Rattle.traffic.proofs.Refusals.{readable, listing}
 use Rattle.report.specs.declared.turns.Counted.{Counted}
 use Rattle.report.specs.Sweeps.{Tally, sum, idle, sweep, drained}
 use Rattle.report.specs.Text.{refused_word, stalled, said}
@@ -34,22 +35,6 @@ use Rattle.report.specs.Coded.{recs, counts, tally, Reached, Printed, printed, p
 use Rattle.report.proofs.Reaching.{few_made, reached_turns}
 use Rattle.report.proofs.Settling.{source, reached}
 use Rattle.report.proofs.Lengths.{sheet_short, refused_short}
-
--- ---- which words
--- how many the mesh needs
-pub needs_so : (bs : List ℕ) (l : Lead) → l ≡ lead bs → {n : ℕ} → n ≡ channels l.columns l.rows → n + n + n ≡ need bs
-needs_so bs l el hn = rw (hn, el) refl
-
-module _ (bs : List ℕ) (words : ℕ) where
-  -- a list that is too short is refused, whatever they are
-  pub read_short : length bs < 2 → {k : ℕ} → k ≡ bad_read bs words 64 → k ≡ bad_read bs (min (need bs) words) 64
-  read_short h e = e ∙ rw (lt-leb 2 (length bs) h) refl
-
-  pub read_few : {n : ℕ} → n ≡ need bs → words < n → {k : ℕ} → k ≡ bad_read bs words 64 → k ≡ bad_read bs (min (need bs) words) 64
-  read_few en h e = let m : min (need bs) words ≡ words = omega (arith, en, h) in rw m e
-
-  pub read_enough : {n : ℕ} → n ≡ need bs → n ≤ words → {k : ℕ} → k ≡ bad_read bs n 64 → k ≡ bad_read bs (min (need bs) words) 64
-  read_enough en h e = let m : min (need bs) words ≡ need bs = omega (arith, en, h) in rw m (rw en at e)
 
 -- ---- what drained
 reached_drained : (C R rule n : ℕ) (S : Tally) → Reached C R rule S → Reached C R rule (drained C R rule n S)
@@ -70,38 +55,29 @@ drain_few bs w z =
     few_made l.columns l.rows l.rule (drain bs w) (reached_drained l.columns l.rows l.rule _ (source bs w z) (reached bs w z))
 
 -- ---- of words of which the first are read into
-module _ (bs w out : List ℕ) {k : ℕ} (hk : k ≡ bad_read bs (min (need bs) (length w)) 64) where
+module _ (bs w out : List ℕ) where
   abbrev part : List ℕ
   part = take (need bs) w
 
-  judged : (reading bs part).answer.refusal ≡ k
-  judged = read_answers bs part (replicate 64 none) ∙ rw (length-take (need bs) w) (sym hk)
+  judged : {k : ℕ} → k ≡ bad_read bs (min (need bs) (length w)) 64 → (reading bs part).answer.refusal ≡ k
+  judged hk = read_answers bs part (replicate 64 none) ∙ rw (length-take (need bs) w) (sym hk)
 
   -- refused
-  pub prints_refused : (k ≡ 0 → ⊥) → {p : Page} → p ≡ puts (page out 0) (said refused_word k) → printed w p ≡ prints bs w out
+  pub prints_refused : (e : Refusal) → code e ≡ bad_read bs (min (need bs) (length w)) 64 → {n : ℕ} {p : Page} → n ≡ code e → p ≡ puts (page out 0) (said refused_word n) → printed w p ≡ prints bs w out
   unfolding prints
-  prints_refused h e = rw (judged, e) (sym (refuses (λ c. printed w (puts (page out 0) (said refused_word c))) _ k h))
+  prints_refused e hk en ep = rw (judged hk, ep, en) (sym (refuses_by (λ c. printed w (puts (page out 0) (said refused_word c))) _ e))
 
-  module _ (z : k ≡ 0) where
-    read_so : bad_read bs (length part) 64 ≡ 0
-    read_so = rw (length-take (need bs) w) (sym hk ∙ z)
+  -- read, into the mesh g of its lead
+  module _ (served : 0 ≡ bad_read bs (min (need bs) (length w)) 64) {g : Mesh} (eg : g ≡ ruled (rule_of (lead bs).rule) (lead bs).columns (lead bs).rows 0) where
+    pub read_so : bad_read bs (length part) 64 ≡ 0
+    read_so = rw (length-take (need bs) w) (sym served)
 
-    -- what the code asks then
-    pub listed_so : listed (length bs) ≡ true
-    listed_so = (readable bs (length part) 64 (sym read_so) refl).long
+    module _ {n : ℕ} (n_is : n ≡ needed g.columns g.rows) where
+      en : n ≡ need bs
+      en = n_is ∙ ap (λ (g : Mesh). needed g.columns g.rows) eg
 
-    pub two_bytes : 2 ≤ length bs
-    two_bytes = (listing (length bs) listed_so).some
-
-    module _ {n : ℕ} (en : n ≡ need bs) where
-      pub enough : n ≤ length w
-      enough =
-          let s : length part ≡ need bs = (readable bs (length part) 64 (sym read_so) refl).sizes.long in
-          let t : min (need bs) (length w) ≡ need bs = sym (length-take (need bs) w) ∙ s in
-          omega (arith, t, en)
-
-      pub part_reads : bad_read bs (length (take (n - 0) (drop 0 w))) 64 ≡ 0
-      part_reads = let m : n - 0 ≡ need bs = omega (arith, en) in rw m read_so
+      pub drain_so : bad_read bs (length (take (n - 0) w)) 64 ≡ 0
+      drain_so = let m : n - 0 ≡ need bs = omega (arith, en) in rw m read_so
 
       module _ (v : List ℕ) (cs : List Counted) (e : tally v cs ≡ drain bs (take (n - 0) (drop 0 w))) where
         same : tally v cs ≡ drain bs part
@@ -120,16 +96,16 @@ module _ (bs w out : List ℕ) {k : ℕ} (hk : k ≡ bad_read bs (min (need bs) 
           arrived : idle (drain bs part).lent.records ≡ b
           arrived = sym (eb ∙ ap (λ (S : Tally). idle S.lent.records) same)
 
-          pub prints_stalled : not b ≡ true → {p : Page} → p ≡ puts (page out 0) stalled → printed (take 0 w ++ (v ++ drop (n - 0) (drop 0 w))) p ≡ prints bs w out
+          pub prints_stalled : b ≡ false → {p : Page} → p ≡ puts (page out 0) stalled → printed (take 0 w ++ (v ++ drop (n - 0) (drop 0 w))) p ≡ prints bs w out
           unfolding prints
-          prints_stalled h ep = rw (judged ∙ z, words_left, ep, arrived ∙ not-true b h) refl
+          prints_stalled h ep = rw (judged served, words_left, ep, arrived ∙ h) refl
 
-          pub prints_drained : not b ≡ false → {p : Page} → p ≡ puts (page out 0) (drained_sheet bs (counts cs))
+          pub prints_drained : b ≡ true → {p : Page} → p ≡ puts (page out 0) (drained_sheet bs (counts cs))
               → printed (take 0 w ++ (v ++ drop (n - 0) (drop 0 w))) p ≡ prints bs w out
           unfolding prints
           prints_drained h ep =
               let made : counts cs ≡ (drain bs part).made = ap (λ (S : Tally). S.made) same in
-              rw (judged ∙ z, words_left, ep, arrived ∙ not-false b h, made) refl
+              rw (judged served, words_left, ep, arrived ∙ h, made) refl
 
 -- ---- the whole
 -- a refusal is a byte
@@ -227,7 +203,15 @@ pub report_refused : (bs w out : List ℕ) → length out < 1024 → record { an
 unfolding report
 report_refused bs w out h = rw (lt-ltb (length out) 1024 h) refl
 
--- ---- what is written is within the bytes
+-- ---- what is written is within the bytes, of which there are enough
+module _ (bs w out : List ℕ) (r : Result ℕ Refusal) (v p : List ℕ) (e : record { answer = written_of r; words = v; bytes = p } ≡ report bs w out) (room : 1024 ≤ length out) where
+  pub report_served : is_ok r ≡ true
+  report_served = by r (ap (λ (x : Reported). x.answer.refusal) (e ∙ (whole_of bs w out room).whole))
+    where
+      by : (r : Result ℕ Refusal) → (written_of r).refusal ≡ 0 → is_ok r ≡ true
+      by (Ok n) z = refl
+      by (Err d) z = absurd (omega (arith, code_high d, z))
+
 module _ (bs w out : List ℕ) {o : Written} (v p : List ℕ) (e : record { answer = o; words = v; bytes = p } ≡ report bs w out) where
   pub report_within : o.length ≤ length p
   report_within = by (ltb (length out) 1024) refl

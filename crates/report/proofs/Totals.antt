@@ -1,41 +1,41 @@
--- Counted packets along a loop: what those from i on still add, and that those before i have arrived. Assumes nothing.
-use Prim.Native.Nat.{ℕ, ◌+◌, ◌≤◌, ◌<◌}
-use mathlib.Core.Path.{◌≡◌, refl, ◌∙◌}
-use mathlib.Core.Bool.{true, false}
-use mathlib.Core.List.{List}
-use native.Mathlib.Numerals.{add-one}
-use lib.ListN.{length, get_or, drop, drop_of_length-le}
-use lib.Seq.{drop-cons}
-use borrow.Author.Tests.{eq-eqb, ne_eqb}
+-- Counted packets as a list of std's words: the sum of their counts, and whether all have arrived. Assumes nothing.
+use Prim.Native.Nat.{◌<◌, ◌≤◌}
+use mathlib.Core.Path.{◌≡◌, refl, sym, ◌∙◌, ap}
+use mathlib.Core.Bool.{Bool, true, false, ◌&&◌}
+use mathlib.Core.List.{List, [], ◌∷◌}
+use native.Mathlib.Omega.{arith}
+use lib.Dec.{eqb}
+use Rattle.std.proofs.Common.{◌↔◌}
+use Rattle.std.specs.List.{sum_by, list_all, AllPass}
+use Rattle.std.proofs.lemmas.List.Sums.{sum_by-cons, AllPass-from_list_all, list_all-from_AllPass}
 use Rattle.wormhole.specs.Range.{every}
 use Rattle.report.specs.declared.turns.Counted.{Counted}
 use Rattle.report.specs.Sweeps.{sum, idle}
 use Rattle.report.specs.Coded.{recs, counts}
 
--- ---- the sum of those from packet i on
--- its own count, and the sum of those after it
-pub sum_more : (cs : List Counted) (i : ℕ) (d : Counted) → i < length cs → sum (counts (drop i cs)) ≡ (get_or cs i d).moves + sum (counts (drop (i + 1) cs))
+-- all moves that were counted
+pub sum_counts : (cs : List Counted) → sum_by (λ (c : Counted). c.moves) cs ≡ sum (counts cs)
 unfolding sum counts
-sum_more cs i d h = rw (add-one, drop-cons cs i d h) refl
+sum_counts [] = refl
+sum_counts (c ∷ cs) = omega (arith, sum_by-cons (λ (d : Counted). d.moves) c cs, sum_counts cs)
 
--- nothing past the last
-pub sum_end : (cs : List Counted) (i : ℕ) → length cs ≤ i → sum (counts (drop i cs)) ≡ 0
-unfolding sum counts
-sum_end cs i h = rw (drop_of_length-le cs h) refl
+-- and they fit
+pub sum_fits : (cs : List Counted) → sum (counts cs) ≤ 396800 → sum_by (λ (c : Counted). c.moves) cs < 4294967296
+sum_fits cs few = omega (arith, sum_counts cs, few)
 
--- ---- packets of which those before i have arrived
-module _ (cs : List Counted) (i : ℕ) (e : idle (recs cs) ≡ idle (recs (drop i cs))) where
-  -- and so has packet i
-  pub idle_more : (d : Counted) → i < length cs → (get_or cs i d).packet.live ≡ 0 → idle (recs cs) ≡ idle (recs (drop (i + 1) cs))
-  unfolding idle every recs
-  idle_more d h z = e ∙ rw (add-one, drop-cons cs i d h, eq-eqb (get_or cs i d).packet.live 0 z) refl
+-- std's test of all packets
+idle_all : (cs : List Counted) → list_all (λ (c : Counted). eqb c.packet.live 0) cs ≡ idle (recs cs)
+unfolding idle every recs
+idle_all [] = refl
+idle_all (c ∷ cs) = ap (λ (b : Bool). eqb c.packet.live 0 && b) (idle_all cs)
 
-  -- it has not
-  pub idle_stop : (d : Counted) → i < length cs → ((get_or cs i d).packet.live ≡ 0 → ⊥) → false ≡ idle (recs cs)
-  unfolding idle every recs
-  idle_stop d h n = rw (e, drop-cons cs i d h, ne_eqb (get_or cs i d).packet.live 0 n) refl
+same : (a b : Bool) → (a ≡ true → b ≡ true) → (b ≡ true → a ≡ true) → a ≡ b
+same true b f g = sym (f refl)
+same false true f g = g refl
+same false false f g = refl
 
-  -- there is none
-  pub idle_all : length cs ≤ i → true ≡ idle (recs cs)
-  unfolding idle every recs
-  idle_all h = rw (e, drop_of_length-le cs h) refl
+-- whether every packet has arrived
+pub idle_so : (cs : List Counted) (b : Bool) → ((b ≡ true) ↔ AllPass (λ (c : Counted). eqb c.packet.live 0) cs) → b ≡ idle (recs cs)
+idle_so cs b h =
+    let p = λ (c : Counted). eqb c.packet.live 0 in
+    same b (list_all p cs) (λ e. list_all-from_AllPass p cs (h.0 e)) (λ e. h.1 (AllPass-from_list_all p cs e)) ∙ idle_all cs

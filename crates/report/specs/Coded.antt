@@ -1,13 +1,11 @@
 -- What the code's own values stand for: cited by the contracts of its inner functions. No call's promise rests on it. Assumes nothing.
-use Rattle.std.specs.Prelude.{ℕ, suc, ◌≤◌, ◌<◌, ◌≡◌, Bool, not, ◌&&◌, ◌||◌, List, map, ◌++◌, eqb, length, take, drop}
-use Rattle.route.specs.declared.meshes.Mesh.{Mesh}
-use Rattle.route.specs.Numbers.{channels}
-use Rattle.wormhole.specs.declared.records.Record.{Record}
-use Rattle.wormhole.specs.Memory.{Net, Sections, owner_of}
-use Rattle.wormhole.specs.Steps.{known, act}
-use Rattle.wormhole.specs.Calls.{allowed}
-use Rattle.wormhole.specs.Drains.{Move, Call, now, work, made}
+use Rattle.std.specs.Prelude.{ℕ, suc, ◌≤◌, ◌≡◌, Bool, ◌&&◌, List, map, ◌++◌, length, take, drop}
 use Rattle.route.specs.Served.{unless}
+use Rattle.wormhole.specs.declared.records.Record.{Record}
+use Rattle.wormhole.specs.declared.steps.Step.{Step}
+use Rattle.wormhole.specs.Memory.{Net, Sections}
+use Rattle.wormhole.specs.Drains.{Move, Call, now, work, made}
+use Rattle.wormhole.specs.Coded.{Means, takes, step_allowed, step_act}
 use Rattle.traffic.specs.Coded.{Page, page, puts}
 use Rattle.report.specs.declared.turns.Counted.{Counted}
 use Rattle.report.specs.declared.turns.Turn.{Turn}
@@ -27,17 +25,14 @@ counts cs = map (λ (c : Counted). c.moves) cs
 abbrev pub tally : List ℕ → List Counted → Tally
 tally w cs = record { lent = record { words = w; records = recs cs }; made = counts cs }
 
--- the move of a turn
-abbrev pub move_of : Turn → Move
-move_of v = record { packet = v.packet; kind = v.kind; channel = v.channel; direction = v.direction }
-
--- a turn that is not the follow from a free channel
-abbrev pub owned : Sections → Turn → Bool
-owned s v = not (eqb v.kind 1) || not (eqb (owner_of s v.channel) 0)
+-- a turn makes a move: the same packet's, of the numbers that the step means
+pub record Makes (v : Turn) (to : Move) : Type 0 where
+  pub packet : v.packet ≡ to.packet
+  pub means : Means v.step to.kind to.channel to.direction
 
 -- the machine accepts a move of packet i, whose record is r
-abbrev pub accepted : Net → Sections → ℕ → Record → ℕ → ℕ → ℕ → Bool
-accepted N s i r kind k d = known N.mesh kind k d && allowed N s i r kind k d
+abbrev pub accepted : Net → Sections → ℕ → Record → Step → Bool
+accepted N s i r v = takes N.mesh v && step_allowed N s i r v
 
 -- the sections and a packet that is counted
 pub record Attempt : Type 0 where
@@ -47,14 +42,8 @@ pub record Attempt : Type 0 where
 -- a turn that is made on them and counted
 unfoldable pub done : Net → Sections → Turn → Counted → Attempt
 done N s v c =
-    let after = act N s v.packet c.packet v.kind v.channel v.direction in
+    let after = step_act N s v.packet c.packet v.step in
     record { words = after.words; counted = record { packet = after.packet; moves = suc c.moves } }
-
--- a turn that can be tried: a lead's direction is one of the four, a follow's channel has a number of the mesh
-pub record Tryable (m : Mesh) (v : Turn) : Type 0 where
-  pub kinds : v.kind ≤ 3
-  pub ways : v.kind ≡ 0 → v.direction < 4
-  pub numbers : v.channel < channels m.columns m.rows
 
 -- a mesh of 64 records that a list and moves reached, the moves counted
 pub record Reached (C R rule : ℕ) (S : Tally) : Type 0 where

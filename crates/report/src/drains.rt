@@ -1,121 +1,89 @@
 // A list drains: sweeps over all its moves, until one accepts none.
 ghost use Rattle.std.specs.Prelude.{◌≡◌, ◌≤◌, length, replicate};
-ghost use Rattle.traffic.specs.Lists.{after_lead, bad_headers, packets};
+ghost use Rattle.route.specs.Mesh.{ruled};
+ghost use Rattle.route.specs.Numbers.{rule_of};
+ghost use Rattle.route.specs.Coded.{meant};
+ghost use Rattle.traffic.specs.Lists.{lead, after_lead, bad_headers, packets};
 ghost use Rattle.traffic.specs.Calls.{bad_read, filled};
 ghost use Rattle.report.specs.Sweeps.{sum, idle, sweep};
 ghost use Rattle.report.specs.Calls.{drain};
 ghost use Rattle.report.specs.Coded.{recs, counts, tally, Reached};
 
-use crate::turns::{Counted, OWN_TURNS, RECORDS, is_accepted, is_owned, make, turn_at};
-use route::mesh_of;
+use crate::turns::{Counted, OWN_TURNS, RECORDS, is_accepted, make, turn_at};
+use route::{Mesh, Plan};
 use traffic::{lead_of, packet_at};
-use wormhole::{channels_of, none, zero};
+use wormhole::Record;
 
 // More sweeps than a list can keep busy.
 const MOST_SWEEPS: u32 = 396801;
 
 // The packets of a list, each at its source, with no move counted.
-fn load(list: &[u8], columns: u8, rows: u8) -> [Counted; 64]
+fn load(list: &[u8], m: Mesh) -> [Counted; RECORDS]
     requires in_bounds { 2 ≤ length list.now }
-    requires headers_served { bad_headers columns rows (after_lead list.now) ≡ 0 }
+    requires headers_served { bad_headers m.columns m.rows (after_lead list.now) ≡ 0 }
     requires few { length (after_lead list.now) ≤ 64 }
-    ensures packets { recs result ≡ filled (packets columns (after_lead list.now)) 64 }
+    ensures packets { recs result ≡ filled (packets m.columns (after_lead list.now)) 64 }
     ensures none_counted { counts result ≡ replicate 64 0 }
 {
     let empty = Counted {
-        packet: none(),
+        packet: Record::default(),
         moves: 0,
     };
-    let mut all = [empty; 64];
-    let mut i: usize = 0;
-    while i < RECORDS {
-        all[i] = Counted {
-            packet: packet_at(list, columns, rows, i),
-            moves: 0,
-        };
-        i += 1;
+    let mut all = [empty; RECORDS];
+    for (i, counted) in all.iter_mut().enumerate() {
+        counted.packet = packet_at(list, m, i);
     }
     all
 }
 
 // All moves that were counted.
-pub fn total_of(all: [Counted; 64]) -> u32
-    requires { sum (counts all) ≤ 396800 }
-    ensures { result ≡ sum (counts all) }
+pub fn total_of(all: &[Counted; RECORDS]) -> u32
+    requires { sum (counts all.now) ≤ 396800 }
+    ensures { result ≡ sum (counts all.now) }
 {
-    let mut total: u32 = 0;
-    let mut i: usize = 0;
-    while i < RECORDS {
-        let c = all[i];
-        total += c.moves;
-        i += 1;
-    }
-    total
+    all.iter().map(|counted| counted.moves).sum()
 }
 
 // Has every packet arrived?
-pub fn is_idle(all: [Counted; 64]) -> bool
-    ensures { result ≡ idle (recs all) }
+pub fn is_idle(all: &[Counted; RECORDS]) -> bool
+    ensures { result ≡ idle (recs all.now) }
 {
-    let mut i: usize = 0;
-    while i < RECORDS {
-        let c = all[i];
-        if c.packet.live != 0 {
-            return false;
-        }
-        i += 1;
-    }
-    true
+    all.iter().all(|counted| counted.packet.live == 0)
 }
 
-// Tries every move once, one turn after another.
-fn sweep(
-    words: &mut [u16],
-    columns: u8,
-    rows: u8,
-    rule: u8,
-    packets: [Counted; 64],
-) -> [Counted; 64]
-    requires { Reached columns rows rule (tally words.old packets) }
-    ensures { tally words.new result ≡ sweep columns rows rule (tally words.old packets) }
+// Tries every move once, one turn after another, in the mesh of a plan.
+fn sweep(words: &mut [u16], plan: Plan, m: Mesh, all: &mut [Counted; RECORDS])
+    requires mesh { meant m ≡ ruled (rule_of plan.rule) plan.columns plan.rows 0 }
+    requires reached { Reached plan.columns plan.rows plan.rule (tally words.old all.old) }
+    ensures { tally words.new all.new ≡ sweep plan.columns plan.rows plan.rule (tally words.old all.old) }
 {
-    let m = mesh_of(columns, rows, rule);
-    let n = channels_of(columns, rows);
-    let end = OWN_TURNS * RECORDS + n;
-    let mut all = packets;
-    let mut t: usize = 0;
-    while t < end {
-        let v = turn_at(words, n, t);
-        t += 1;
-        if !is_owned(words, n, v) {
+    let n = m.channels();
+    for t in 0..OWN_TURNS * RECORDS + n {
+        let Some(v) = turn_at(words, n, t) else {
             continue;
-        }
-        let i = v.packet as usize;
-        let c = all[i];
-        if is_accepted(words, m, v, c.packet) {
-            all[i] = make(words, m, v, c);
+        };
+        let counted = &mut all[v.packet as usize];
+        if is_accepted(words, m, v, counted.packet) {
+            *counted = make(words, m, v, *counted);
         }
     }
-    all
 }
 
-// Reads a list into words and drains it.
-pub fn drain(list: &[u8], words: &mut [u16]) -> [Counted; 64]
-    requires { bad_read list.now (length words.old) 64 ≡ 0 }
+// Reads a list into words and drains it, in the list's mesh.
+pub fn drain(list: &[u8], m: Mesh, words: &mut [u16]) -> [Counted; RECORDS]
+    requires mesh { meant m ≡ ruled (rule_of (lead list.now).rule) (lead list.now).columns (lead list.now).rows 0 }
+    requires readable { bad_read list.now (length words.old) 64 ≡ 0 }
     ensures { tally words.new result ≡ drain list.now words.old }
 {
-    let lead = lead_of(list);
-    zero(words);
-    let mut all = load(list, lead.columns, lead.rows);
-    let mut sweeps: u32 = 0;
-    while sweeps < MOST_SWEEPS {
-        let before = total_of(all);
-        let swept = sweep(words, lead.columns, lead.rows, lead.rule, all);
-        if total_of(swept) == before {
-            return swept;
+    let plan = lead_of(list).plan();
+    words.fill(0);
+    let mut all = load(list, m);
+    for _ in 0..MOST_SWEEPS {
+        let before = total_of(&all);
+        sweep(words, plan, m, &mut all);
+        if total_of(&all) == before {
+            return all;
         }
-        all = swept;
-        sweeps += 1;
     }
     all
 }

@@ -10,7 +10,7 @@ ghost use Rattle.report.specs.Coded.{counts};
 
 use crate::drains::total_of;
 use crate::texts::{put_number, put_said, put_text};
-use crate::turns::Counted;
+use crate::turns::{Counted, RECORDS};
 use traffic::{Header, header_of, packets_of, put};
 
 // How many hops a packet needs.
@@ -32,26 +32,22 @@ fn put_line(out: &mut [u8], end: usize, i: u32, h: Header, moves: u32) -> usize
 }
 
 // Writes the line of each packet. Returns where the next byte goes.
-fn put_lines(out: &mut [u8], end: usize, list: &[u8], all: [Counted; 64]) -> usize
+fn put_lines(out: &mut [u8], end: usize, list: &[u8], all: &[Counted; RECORDS]) -> usize
     requires { listed (length list.now) ≡ true }
-    ensures { page out.new result ≡ puts (page out.old end) (lines 0 (after_lead list.now) (λ i. get_or (counts all) i 0)) }
+    ensures { page out.new result ≡ puts (page out.old end) (lines 0 (after_lead list.now) (λ i. get_or (counts all.now) i 0)) }
 {
-    let n = packets_of(list);
     let mut at = end;
-    let mut i: usize = 0;
-    while i < n {
-        let c = all[i];
-        at = put_line(out, at, i as u32, header_of(list, i), c.moves);
-        i += 1;
+    for (i, counted) in all[..packets_of(list)].iter().enumerate() {
+        at = put_line(out, at, i as u32, header_of(list, i), counted.moves);
     }
     at
 }
 
 // Writes the sheet of a list whose packets made these moves. Returns its length.
-pub fn put_sheet(out: &mut [u8], list: &[u8], all: [Counted; 64]) -> usize
+pub fn put_sheet(out: &mut [u8], list: &[u8], all: &[Counted; RECORDS]) -> usize
     requires listed { listed (length list.now) ≡ true }
-    requires few { sum (counts all) ≤ 396800 }
-    ensures { page out.new result ≡ puts (page out.old 0) (drained_sheet list.now (counts all)) }
+    requires few { sum (counts all.now) ≤ 396800 }
+    ensures { page out.new result ≡ puts (page out.old 0) (drained_sheet list.now (counts all.now)) }
 {
     let headed = put_text(out, 0, b"packet hops moves\n");
     let lined = put_lines(out, headed, list, all);

@@ -10,10 +10,8 @@ pub fn put_text(out: &mut [u8], end: usize, text: &[u8]) -> usize
     ensures { page out.new result ≡ puts (page out.old end) text.now }
 {
     let mut at = end;
-    let mut i = 0;
-    while i < text.len() {
-        at = put(out, at, text[i]);
-        i += 1;
+    for &byte in text {
+        at = put(out, at, byte);
     }
     at
 }
@@ -23,10 +21,10 @@ pub fn put_number(out: &mut [u8], end: usize, n: u32) -> usize
     ensures { page out.new result ≡ puts (page out.old end) (decimal n) }
 {
     if n < 10 {
-        return put(out, end, 48 + n as u8);
+        return put(out, end, b'0' + n as u8);
     }
     let at = put_number(out, end, n / 10);
-    put(out, at, 48 + (n % 10) as u8)
+    put(out, at, b'0' + (n % 10) as u8)
 }
 
 // Writes a word, a number and a newline at the end. Returns where the next byte goes.

@@ -1,4 +1,5 @@
-// The call of `report`, for C: it is the library's own, with its promise. `include/mesh.h` declares it.
+// The call of `report`, for C: it is the library's own, with its promise, and its answer in C's form.
+// `include/mesh.h` declares it.
 #![tactic(auto)]
 
 ghost use Rattle.std.specs.Prelude.{◌≡◌};
@@ -12,5 +13,5 @@ pub extern "C" fn mesh_report(list: &[u8], words: &mut [u16], out: &mut [u8]) ->
     ensures { record { answer = result; words = words.new; bytes = out.new }
         ≡ report list.now words.old out.old }
 {
-    report::mesh_report(list, words, out)
+    Written::from(report::mesh_report(list, words, out))
 }

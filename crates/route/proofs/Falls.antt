@@ -1,8 +1,8 @@
 -- Where a numbering falls: the channels after a given one are those that leave its end, of which each of the code's tests decides on
 -- one; and the first that falls is found by going through them upward. Assumes nothing.
-use Prim.Native.Nat.{ℕ, ◌+◌, ◌*◌, ◌/◌, ◌%◌, ◌≤◌, ◌<◌}
+use Prim.Native.Nat.{ℕ, ◌+◌, ◌*◌, ◌/◌, ◌≤◌, ◌<◌}
 use mathlib.Core.Path.{◌≡◌, refl, ap, sym, subst, ◌∙◌}
-use mathlib.Core.Bool.{Bool, true, false, ◌&&◌, not, and-false}
+use mathlib.Core.Bool.{Bool, true, false, ◌&&◌, and-false}
 use mathlib.Core.List.{List}
 use mathlib.Core.Logic.{⊎_elim}
 use native.Mathlib.Nat.{eq-or-lt_of_le}
@@ -11,18 +11,17 @@ use mir.Facts.{and_yes}
 use lib.ListN.{get_or}
 use lib.Dec.{ltb, leb}
 use borrow.Author.Tests.{ltb-true, ltb-false, lt-ltb, le-ltb, eq-eqb}
-use Rattle.route.specs.declared.checks.Checked.{Checked}
 use Rattle.route.specs.declared.places.Place.{Place}
 use Rattle.route.specs.Grid.{horiz, vert, Dir, coord, hop}
 use Rattle.route.specs.Turns.{going}
 use Rattle.route.specs.Mesh.{Mesh, Inside, exists, turn}
-use Rattle.route.specs.Numbers.{node, dir_of, arrival_of, channels}
+use Rattle.route.specs.Numbers.{node, dir_of, channels}
 use Rattle.route.specs.Paths.{same_place}
 use Rattle.route.specs.Channels.{channel, start, way, far, is_channel, in_turn}
 use Rattle.route.specs.Check.{bends, falls, first_after, first_from, no_pair, first_pair}
 use Rattle.route.specs.Coded.{Ends}
-use Rattle.route.proofs.Tests.{fails, leb_is, no_if_not, yes_if_not, no_if, yes_if}
-use Rattle.route.proofs.Codes.{bends_not, bends_so, number_of_dir, arrival_going}
+use Rattle.route.proofs.Tests.{fails, leb_is, no_if, yes_if}
+use Rattle.route.proofs.Codes.{number_of_dir}
 use Rattle.route.proofs.Least.{the_least}
 use Rattle.route.proofs.Nodes.{hop_inside, start_inside, start_node, channel_start, channel_way, channel_below, channel_is, joined, a_channel}
 
@@ -31,8 +30,8 @@ same_place_self : (n : Place) → same_place n n ≡ true
 same_place_self n = rw (eq-eqb (coord horiz n) (coord horiz n) refl, eq-eqb (coord vert n) (coord vert n) refl) refl
 
 -- a channel that exists and its end, as the code has found them
-pub ending : (m : Mesh) (i : ℕ) {s t : Place} {w : ℕ} {b : Bool} → i < channels m.columns m.rows → s ≡ start m.columns i → w ≡ i % 4 → b ≡ exists m s (dir_of w) → not b ≡ false
-    → t ≡ hop (dir_of w) s → Ends m i t
+pub ending : (m : Mesh) (i : ℕ) {s t : Place} {w : Dir} {b : Bool} → i < channels m.columns m.rows → s ≡ start m.columns i → w ≡ way i → b ≡ exists m s w → b ≡ true
+    → t ≡ hop w s → Ends m i t
 ending m i low hs hw hb h ht = record { known = a_channel m i low hs hw hb h; ends = rw (hs, hw) at ht }
 
 module _ (m : Mesh) (i : ℕ) {s : Place} (e : Ends m i s) where
@@ -61,41 +60,43 @@ module _ (m : Mesh) (l : List ℕ) (i : ℕ) where
         h (sym (start_node C o) ∙ ap (node C) (sym (e.ends ∙ j.meets))))
 
     -- the one that leaves s by d
-    module _ (d : ℕ) (low : d < 4) where
+    module _ (d : Dir) where
       abbrev o : ℕ
-      o = channel C s (dir_of d)
+      o = channel C s d
 
-      by_tests : falls m l i o ≡ ((exists m s (dir_of d) && turn m (coord horiz s) (going (way i)) (dir_of d)) && bends (way i) (dir_of d)) && leb (get_or l o 0) (get_or l i 0)
+      by_tests : falls m l i o ≡ ((exists m s d && turn m (coord horiz s) (going (way i)) d) && bends (way i) d) && leb (get_or l o 0) (get_or l i 0)
       unfolding falls in_turn is_channel
       by_tests =
-          ap (λ n. asked n (way o)) (channel_start C s (dir_of d) (inside m i e).0)
-          ∙ ap (asked s) (channel_way C s (dir_of d))
-          ∙ rw (e.known, lt-ltb o (channels m.columns m.rows) (channel_below m s (dir_of d) (inside m i e)), sym e.ends, same_place_self s) refl
+          ap (λ n. asked n (way o)) (channel_start C s d (inside m i e).0)
+          ∙ ap (asked s) (channel_way C s d)
+          ∙ rw (e.known, lt-ltb o (channels m.columns m.rows) (channel_below m s d (inside m i e)), sym e.ends, same_place_self s) refl
         where
           asked : Place → Dir → Bool
           asked n e =
               (((is_channel m i && (ltb o (channels m.columns m.rows) && exists m n e)) && (same_place (far C i) n && turn m (coord horiz n) (going (way i)) e)) && bends (way i) e)
               && leb (get_or l o 0) (get_or l i 0)
 
-      -- straight on or back
-      pub level : i % 4 / 2 ≡ d / 2 → false ≡ falls m l i o
-      level h = rw (by_tests, bends_not (i % 4) d (omega arith) low h, and-false) refl
-
       -- no such channel
-      pub no_way : {x : Bool} → x ≡ exists m s (dir_of d) → not x ≡ true → false ≡ falls m l i o
-      no_way hx h = rw (by_tests, no_if_not hx h) refl
+      pub no_way : {x : Bool} → x ≡ exists m s d → x ≡ false → false ≡ falls m l i o
+      no_way hx h = rw (by_tests, no_if hx h) refl
 
-      -- the turn is not allowed
-      pub barred : {y : Bool} → y ≡ turn m (coord horiz s) (arrival_of (i % 4)) (dir_of d) → not y ≡ true → false ≡ falls m l i o
-      barred hy h = rw (by_tests, rw (arrival_going (i % 4) (omega arith)) at (no_if_not hy h), and-false) refl
+      -- w is the way of channel i, as the code has found it
+      module _ {w : Dir} (hw : w ≡ way i) where
+        -- straight on or back
+        pub level : {b : Bool} → b ≡ bends w d → b ≡ false → false ≡ falls m l i o
+        level hb h = rw (by_tests, rw hw at (no_if hb h), and-false) refl
 
-      -- an allowed turn by 90 degrees: the numbers decide
-      pub compared : {x y r : Bool} → (i % 4 / 2 ≡ d / 2 → ⊥) → x ≡ exists m s (dir_of d) → not x ≡ false
-          → y ≡ turn m (coord horiz s) (arrival_of (i % 4)) (dir_of d) → not y ≡ false
-          → (r ≡ true → get_or l o 0 ≤ get_or l i 0) → (r ≡ false → get_or l i 0 < get_or l o 0) → r ≡ falls m l i o
-      compared f hx h hy k if_true if_false =
-          leb_is if_true if_false
-          ∙ sym (rw (by_tests, bends_so (i % 4) d (omega arith) low f, yes_if_not hx h, rw (arrival_going (i % 4) (omega arith)) at (yes_if_not hy k)) refl)
+        -- the turn is not allowed
+        pub barred : {y : Bool} → y ≡ turn m (coord horiz s) (going w) d → y ≡ false → false ≡ falls m l i o
+        barred hy h = rw (by_tests, rw hw at (no_if hy h), and-false) refl
+
+        -- an allowed turn by 90 degrees: the numbers decide
+        pub compared : {b x y r : Bool} → b ≡ bends w d → b ≡ true → x ≡ exists m s d → x ≡ true
+            → y ≡ turn m (coord horiz s) (going w) d → y ≡ true
+            → (r ≡ true → get_or l o 0 ≤ get_or l i 0) → (r ≡ false → get_or l i 0 < get_or l o 0) → r ≡ falls m l i o
+        compared hb g hx h hy k if_true if_false =
+            leb_is if_true if_false
+            ∙ sym (rw (by_tests, rw hw at (yes_if hb g), yes_if hx h, rw hw at (yes_if hy k)) refl)
 
     -- ---- the first that falls: w of the four directions have been looked at
     abbrev Passed : ℕ → Type 0
@@ -104,19 +105,19 @@ module _ (m : Mesh) (l : List ℕ) (i : ℕ) where
     pub none_passed : Passed 0
     none_passed o h = elsewhere o (λ e. omega arith)
 
-    module _ (w : ℕ) (low : w < 4) (passed : Passed w) where
-      next : channel C s (dir_of w) ≡ 4 * node C s + w
-      next = omega (arith, number_of_dir w low)
+    module _ (w : ℕ) (low : w < 4) (passed : Passed w) {d : Dir} (hd : d ≡ dir_of w) where
+      next : channel C s d ≡ 4 * node C s + w
+      next = rw hd (omega (arith, number_of_dir w low))
 
-      pub pass : {b : Bool} → b ≡ falls m l i (channel C s (dir_of w)) → b ≡ false → Passed (w + 1)
+      pub pass : {b : Bool} → b ≡ falls m l i (channel C s d) → b ≡ false → Passed (w + 1)
       pass hb h o j =
           let k : o ≤ 4 * node C s + w = omega arith in
           ⊎_elim (λ e. subst (λ x. falls m l i x ≡ false) (next ∙ sym e) (no_if hb h)) (passed o) (eq-or-lt_of_le k)
 
-      pub found : {b : Bool} → b ≡ falls m l i (channel C s (dir_of w)) → b ≡ true → channel C s (dir_of w) ≡ first_after m l i
+      pub found : {b : Bool} → b ≡ falls m l i (channel C s d) → b ≡ true → channel C s d ≡ first_after m l i
       found hb h =
-          sym (the_least (falls m l i) (channels m.columns m.rows) (channel C s (dir_of w)) (record {
-            high = omega (arith, channel_below m s (dir_of w) (inside m i e));
+          sym (the_least (falls m l i) (channels m.columns m.rows) (channel C s d) (record {
+            high = omega (arith, channel_below m s d (inside m i e));
             before = λ o j. passed o (omega (arith, next));
             passes = λ j. yes_if hb h;
           }))
@@ -142,12 +143,12 @@ module _ (m : Mesh) (l : List ℕ) (i : ℕ) (passed : (j : ℕ) → j < i → l
       let q : j ≤ i = omega arith in
       ⊎_elim (λ z. subst (λ x. fallen x ≡ false) (sym z) (le-ltb (first_after m l i) (channels m.columns m.rows) (rw e at h))) (passed j) (eq-or-lt_of_le q)
 
-  pub names : {o : ℕ} {r : Checked} → o ≡ first_after m l i → o < channels m.columns m.rows → i < channels m.columns m.rows → r.refusal ≡ 14 → r.incoming ≡ i → r.outgoing ≡ o → r ≡ first_pair m l
+  pub names : {o : ℕ} → o ≡ first_after m l i → o < channels m.columns m.rows → i < channels m.columns m.rows → record { refusal = 14; incoming = i; outgoing = o } ≡ first_pair m l
   unfolding first_pair
-  names e h k hr hi ho =
+  names e h k =
       let q : first_after m l i < channels m.columns m.rows = rw e at h in
       let z : first_from m l ≡ i = the_least fallen (channels m.columns m.rows) i (record { high = omega arith; before = passed; passes = λ p. lt-ltb (first_after m l i) (channels m.columns m.rows) q }) in
-      rw (z, lt-ltb i (channels m.columns m.rows) k, sym e) (λ x. record { refusal = hr x; incoming = hi x; outgoing = ho x })
+      rw (z, lt-ltb i (channels m.columns m.rows) k, sym e) refl
 
   pub accepts : channels m.columns m.rows ≤ i → no_pair 0 ≡ first_pair m l
   unfolding first_pair

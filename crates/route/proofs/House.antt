@@ -1,5 +1,5 @@
 -- The house numbers: by the frame of a place, as the code has them; bounded, by their formulas. Assumes nothing.
-use Prim.Native.Nat.{ℕ, zero, suc, ◌+◌, ◌%◌, ◌≤◌, ◌<◌}
+use Prim.Native.Nat.{ℕ, zero, suc, ◌+◌, ◌≤◌, ◌<◌}
 use mathlib.Core.Path.{◌≡◌, refl, sym, ◌∙◌}
 use mathlib.Core.Bool.{true, false}
 use mathlib.Core.List.{List, [], ◌∷◌, ◌++◌, append-nil}
@@ -14,8 +14,7 @@ use Rattle.route.specs.declared.places.Place.{Place}
 use Rattle.route.specs.Grid.{Dir}
 use Rattle.route.specs.Turns.{Rule}
 use Rattle.route.specs.Mesh.{Mesh}
-use Rattle.route.specs.Numbers.{dir_of}
-use Rattle.route.specs.Channels.{start, is_channel}
+use Rattle.route.specs.Channels.{start, way, is_channel}
 use Rattle.route.specs.House.{house, house_of, upto}
 use Rattle.route.specs.Coded.{meant, framed, in_frame}
 
@@ -30,7 +29,7 @@ pub no_word : (k : Rule) (m : Mesh) (i : ℕ) → is_channel m i ≡ false → 0
 unfolding house_of
 no_word k m i h = rw h refl
 
-pub word : (k : Rule) (m : Mesh) (i : ℕ) {s : Place} {w r : ℕ} → is_channel m i ≡ true → s ≡ start m.columns i → w ≡ i % 4 → r ≡ house k m s (dir_of w)
+pub word : (k : Rule) (m : Mesh) (i : ℕ) {s : Place} {w : Dir} {r : ℕ} → is_channel m i ≡ true → s ≡ start m.columns i → w ≡ way i → r ≡ house k m s w
     → r ≡ house_of k m i
 unfolding house_of
 word k m i h hs hw hr = rw h (rw (hs, hw) at hr)

@@ -6,6 +6,7 @@ use native.Mathlib.Omega.{arith}
 use lib.ListN.{length}
 use Rattle.route.specs.declared.checks.Checked.{Checked}
 use Rattle.route.specs.declared.meshes.Mesh.{Mesh as Coded}
+use Rattle.route.specs.Turns.{Rule}
 use Rattle.route.specs.Mesh.{Mesh, ruled}
 use Rattle.route.specs.Numbers.{rule_of, channels}
 use Rattle.route.specs.Served.{bad_list}
@@ -13,6 +14,10 @@ use Rattle.route.specs.House.{numbering, numbered}
 use Rattle.route.specs.Check.{no_pair, first_pair, checked}
 use Rattle.route.specs.Coded.{meant, Roomy}
 use Rattle.route.proofs.Unless as unless
+
+-- the mesh of a rule is that of the rule's number
+pub of_rule : {C R : ℕ} (rule : ℕ) (m : Coded) {k : Rule} → meant m ≡ ruled k C R 0 → k ≡ rule_of rule → meant m ≡ ruled (rule_of rule) C R 0
+of_rule {C} {R} rule m hm hk = hm ∙ ap (λ (k : Rule). ruled k C R 0) hk
 
 module _ (C R rule : ℕ) (l : List ℕ) {k : ℕ} (hk : k ≡ bad_list C R rule (length l)) where
   pub not_numbered : (k ≡ 0 → ⊥) → record { refusal = k; list = l } ≡ numbered C R rule l

@@ -1,7 +1,7 @@
 -- The places of nodes and channels, and back: by the laws of quotient and remainder. Assumes nothing.
 use Prim.Native.Nat.{ℕ, zero, suc, ◌*◌, ◌/◌, ◌%◌, ◌≤◌, ◌<◌}
 use mathlib.Core.Path.{◌≡◌, refl, ◌∙◌}
-use mathlib.Core.Bool.{Bool, true, false, ◌&&◌, ◌||◌, not}
+use mathlib.Core.Bool.{Bool, true, false, ◌&&◌, ◌||◌}
 use native.Mathlib.Nat.{mod-lt, div-lt_iff_lt-mul, div-add-mod, mul-le-mul_left, mul-le-mul}
 use native.Mathlib.Omega.{arith}
 use mir.Facts.{and_yes}
@@ -12,12 +12,12 @@ use Rattle.route.specs.declared.places.Place.{Place}
 use Rattle.route.specs.Grid.{horiz, vert, less, more, Dir, go, at, coord, hop}
 use Rattle.route.specs.Turns.{going}
 use Rattle.route.specs.Mesh.{Mesh, Inside, exists, turn, ruled}
-use Rattle.route.specs.Numbers.{node, place_of, number, dir_of, rule_of, channels}
+use Rattle.route.specs.Numbers.{node, place_of, number, rule_of, channels}
 use Rattle.route.specs.Served.{bad_mesh}
 use Rattle.route.specs.Paths.{same_place}
 use Rattle.route.specs.Channels.{channel, start, way, far, is_channel, in_turn}
 use Rattle.route.proofs.Every.{dirs}
-use Rattle.route.proofs.Tests.{neither, no_if_not, yes_if_not}
+use Rattle.route.proofs.Tests.{neither, no_if, yes_if}
 use Rattle.route.proofs.Codes.{dir_of_number}
 use Rattle.route.proofs.Unless.{Served, served}
 
@@ -135,6 +135,14 @@ joined m i o h =
 pub bytes_fit : (a b : ℕ) → a ≤ 255 → b ≤ 255 → a * b ≤ 65025
 bytes_fit a b h i = mul-le-mul h i
 
+-- a channel's number has the size that the code asks for, whatever the sides
+pub number_low : (C R k : ℕ) → R ≤ 255 → k < channels C R → (0 < C) × (k < 1024 * C)
+number_low C R k h i = let f = mul-le-mul_left C h in (positive C i, omega arith)
+  where
+    positive : (c : ℕ) → k < 4 * (c * R) → 0 < c
+    positive zero j = absurd (omega arith)
+    positive (suc c) j = omega arith
+
 -- in a mesh with room a channel's number has the size that the code asks for
 pub number_high : (C R k : ℕ) → R ≤ 64 → k < channels C R → k < 1024 * C
 number_high C R k h i = omega (arith, mul-le-mul_left C h)
@@ -143,11 +151,11 @@ pub words_fit : (C R : ℕ) → C ≤ 64 → R ≤ 64 → channels C R ≤ 16384
 words_fit C R h i = omega (arith, mul-le-mul h i)
 
 -- ---- what the code has found of channel i: where it starts, its direction, whether it exists
-module _ (m : Mesh) (i : ℕ) {s : Place} {w : ℕ} {b : Bool} (low : i < channels m.columns m.rows) (hs : s ≡ start m.columns i) (hw : w ≡ i % 4) (hb : b ≡ exists m s (dir_of w)) where
-  pub not_channel : not b ≡ true → is_channel m i ≡ false
+module _ (m : Mesh) (i : ℕ) {s : Place} {w : Dir} {b : Bool} (low : i < channels m.columns m.rows) (hs : s ≡ start m.columns i) (hw : w ≡ way i) (hb : b ≡ exists m s w) where
+  pub not_channel : b ≡ false → is_channel m i ≡ false
   unfolding is_channel
-  not_channel h = rw (lt-ltb i (channels m.columns m.rows) low, rw (hs, hw) at (no_if_not hb h)) refl
+  not_channel h = rw (lt-ltb i (channels m.columns m.rows) low, rw (hs, hw) at (no_if hb h)) refl
 
-  pub a_channel : not b ≡ false → is_channel m i ≡ true
+  pub a_channel : b ≡ true → is_channel m i ≡ true
   unfolding is_channel
-  a_channel h = rw (lt-ltb i (channels m.columns m.rows) low, rw (hs, hw) at (yes_if_not hb h)) refl
+  a_channel h = rw (lt-ltb i (channels m.columns m.rows) low, rw (hs, hw) at (yes_if hb h)) refl

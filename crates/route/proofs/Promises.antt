@@ -31,9 +31,9 @@ pub use Rattle.route.proofs.Shortest.{by_paths, none_shorter, home}
 pub use Rattle.route.proofs.Nodes.{channel_start, channel_way, place_inside, start_inside, hop_inside, end_inside, node_below, channel_below, dir_below, channel_is}
 pub use Rattle.route.proofs.Codes.{dir_of_number}
 -- sides of a byte have a product of two (bytes_fit), and sides up to 64 numbers of channels that fit a word (words_fit); a mesh that no call
--- refuses has these sides and rule (Served, served), and a refusal is given as it is (refuses)
+-- refuses has these sides and rule (Served, served), and a refusal is given as it is (refuses; refuses_by of the code's own, none of which is 0, code_high)
 pub use Rattle.route.proofs.Nodes.{bytes_fit, words_fit}
-pub use Rattle.route.proofs.Unless.{Served, served, refuses}
+pub use Rattle.route.proofs.Unless.{Served, served, refuses, code_high, refuses_by}
 -- for every turn table: a list rises if its numbers do at every allowed turn by 90 degrees (Rising); where the check names a pair, that
 -- pair falls and none before it does (First, first)
 pub use Rattle.route.proofs.Accepts.{Rising, First, first}

@@ -8,13 +8,35 @@ use lib.Dec.{ltb, eqb}
 use borrow.Author.Tests.{ltb-false, eqb-true, eq-eqb, ne_eqb}
 use Rattle.route.specs.Grid.{pick}
 use Rattle.route.specs.Numbers.{channels}
-use Rattle.route.specs.Served.{off_side, unless, bad_mesh, bad_list}
+use Rattle.route.specs.declared.refusals.Refusal.{Refusal}
+use Rattle.route.specs.declared.refusals.Refusal.TheVariants.{BadSide, BadRule, BadNode, BadArrival, SameNode, BadFlits, BadSize, NotNow, BadMemory, Full, NoPath, BadList, BadMove}
+use Rattle.route.specs.Served.{off_side, unless, bad_mesh, bad_list, code}
 use Rattle.route.proofs.Tests.{neither}
 
 -- a refusal is given as it is; with 0 the call is served
 pub refuses : {A : Type 0} (refuse : ℕ → A) (served : A) (k : ℕ) → (k ≡ 0 → ⊥) → unless refuse k served ≡ refuse k
 refuses refuse served zero h = absurd (h refl)
 refuses refuse served (suc k) h = refl
+
+-- no refusal has the number 0
+pub code_high : (e : Refusal) → 0 < code e
+code_high BadSide = omega arith
+code_high BadRule = omega arith
+code_high BadNode = omega arith
+code_high BadArrival = omega arith
+code_high SameNode = omega arith
+code_high BadFlits = omega arith
+code_high BadSize = omega arith
+code_high NotNow = omega arith
+code_high BadMemory = omega arith
+code_high Full = omega arith
+code_high NoPath = omega arith
+code_high BadList = omega arith
+code_high BadMove = omega arith
+
+-- so that a refusal is given as it is
+pub refuses_by : {A : Type 0} (refuse : ℕ → A) (served : A) (e : Refusal) → unless refuse (code e) served ≡ refuse (code e)
+refuses_by refuse served e = refuses refuse served (code e) (λ z. omega (arith, code_high e))
 
 -- ---- a mesh
 -- sides and a rule that the calls serve

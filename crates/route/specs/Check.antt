@@ -1,10 +1,12 @@
 -- The check of anybody's numbering: the first pair of channels at which it does not rise. Assumes nothing.
-use Rattle.std.specs.Prelude.{ℕ, zero, suc, Bool, true, false, ◌&&◌, List, length, get_or, ltb, leb}
+use Rattle.std.specs.Prelude.{ℕ, zero, suc, Bool, true, false, ◌&&◌, List, length, get_or, ltb, leb, Option, None, Some, Result, Ok, Err}
 use Rattle.route.specs.declared.checks.Checked.{Checked}
+use Rattle.route.specs.declared.checks.Fall.{Fall}
+use Rattle.route.specs.declared.refusals.Refusal.{Refusal}
 use Rattle.route.specs.Grid.{pick, horiz, vert, Dir, go}
 use Rattle.route.specs.Mesh.{Mesh, ruled}
 use Rattle.route.specs.Numbers.{rule_of, channels}
-use Rattle.route.specs.Served.{unless, bad_list}
+use Rattle.route.specs.Served.{unless, bad_list, code}
 use Rattle.route.specs.Channels.{way, in_turn}
 
 -- from one direction to another is a turn by 90 degrees
@@ -44,3 +46,14 @@ first_pair m list =
 -- the call: the first refusal that applies, else what the list's numbers say
 unfoldable pub checked : ℕ → ℕ → ℕ → List ℕ → Checked
 checked C R rule list = unless no_pair (bad_list C R rule (length list)) (first_pair (ruled (rule_of rule) C R 0) list)
+
+-- ---- the answer of the call as a library has it
+-- the first pair, where there is one
+abbrev pub pair_of : Option Fall → Checked
+pair_of None = no_pair 0
+pair_of (Some f) = record { refusal = 14; incoming = f.incoming; outgoing = f.outgoing }
+
+-- or a refusal
+abbrev pub checked_of : Result (Option Fall) Refusal → Checked
+checked_of (Ok pair) = pair_of pair
+checked_of (Err e) = no_pair (code e)

@@ -1,12 +1,13 @@
 -- The routing call: its refusals in their order, and the set of outputs. Assumes nothing.
-use Rattle.std.specs.Prelude.{ℕ, ◌+◌, ◌*◌, Bool, true, ◌&&◌, ◌||◌, not, leb, eqb}
+use Rattle.std.specs.Prelude.{ℕ, ◌+◌, ◌*◌, Bool, true, ◌&&◌, ◌||◌, not, leb, eqb, Result, Ok, Err}
 use Rattle.route.specs.declared.places.Place.{Place}
 use Rattle.route.specs.declared.routes.Routed.{Routed}
+use Rattle.route.specs.declared.refusals.Refusal.{Refusal}
 use Rattle.route.specs.Grid.{pick, Dir, west, east, south, north, back}
 use Rattle.route.specs.Turns.{Arrival, local, going}
 use Rattle.route.specs.Mesh.{Mesh, exists, ruled}
 use Rattle.route.specs.Numbers.{place_of, arrival_of, rule_of}
-use Rattle.route.specs.Served.{unless, bad_mesh}
+use Rattle.route.specs.Served.{unless, bad_mesh, code}
 use Rattle.route.specs.Paths.{same_place, answer}
 
 -- the values of the directions in a set, added
@@ -41,3 +42,8 @@ routed C R rule n arrival t =
     (pick (not (arrives m here arrival)) (refuse 4)
     (pick (eqb set 0) (refuse 11)
     (record { refusal = 0; outputs = set }))))
+
+-- the answer of the call as a library has it: a set or a refusal
+abbrev pub routed_of : Result ℕ Refusal → Routed
+routed_of (Ok set) = record { refusal = 0; outputs = set }
+routed_of (Err e) = refuse (code e)

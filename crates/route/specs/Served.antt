@@ -1,5 +1,7 @@
 -- What the calls refuse before they look at anything else: the sides, the rule, the length of a list. Assumes nothing.
-use Rattle.std.specs.Prelude.{ℕ, zero, suc, Bool, ◌||◌, ltb, eqb}
+use Rattle.std.specs.Prelude.{ℕ, zero, suc, Bool, ◌||◌, ltb, eqb, Result, Ok, Err}
+use Rattle.route.specs.declared.refusals.Refusal.{Refusal}
+use Rattle.route.specs.declared.refusals.Refusal.TheVariants.{BadSide, BadRule, BadNode, BadArrival, SameNode, BadFlits, BadSize, NotNow, BadMemory, Full, NoPath, BadList, BadMove}
 use Rattle.route.specs.Grid.{pick}
 use Rattle.route.specs.Numbers.{channels}
 
@@ -19,3 +21,25 @@ bad_mesh C R rule = pick (off_side C || off_side R) 1 (pick (ltb 4 rule) 2 0)
 -- and of a list of so many words, lent for its numbering: then 7, unless there is a word for each number of a channel
 abbrev pub bad_list : ℕ → ℕ → ℕ → ℕ → ℕ
 bad_list C R rule length = unless (λ k. k) (bad_mesh C R rule) (pick (eqb length (channels C R)) 0 7)
+
+-- ---- refusals as the code has them
+-- the number of a refusal
+abbrev pub code : Refusal → ℕ
+code BadSide = 1
+code BadRule = 2
+code BadNode = 3
+code BadArrival = 4
+code SameNode = 5
+code BadFlits = 6
+code BadSize = 7
+code NotNow = 8
+code BadMemory = 9
+code Full = 10
+code NoPath = 11
+code BadList = 12
+code BadMove = 13
+
+-- the number that a result is refused by; 0, which is none, where it is served
+abbrev pub refusal_of : {A : Type 0} → Result A Refusal → ℕ
+refusal_of (Ok a) = 0
+refusal_of (Err e) = code e

@@ -1,113 +1,126 @@
 // The check of a numbering, whoever made it: do the numbers rise at every turn by 90 degrees that the
 // rule allows? It looks at each turn once.
-ghost use Rattle.std.specs.Prelude.{◌≡◌, ◌<◌, length};
+ghost use Rattle.std.specs.Prelude.{◌≡◌, ◌<◌, length, unwrap_or, IfSome};
 ghost use Rattle.route.specs.Channels.{channel};
-ghost use Rattle.route.specs.Numbers.{dir_of, channels};
-ghost use Rattle.route.specs.Check.{falls, first_after, no_pair, first_pair, checked};
+ghost use Rattle.route.specs.Numbers.{channels, facing};
+ghost use Rattle.route.specs.Check.{falls, first_after, first_pair, checked, pair_of, checked_of};
 ghost use Rattle.route.specs.Coded.{meant, Roomy, Ends};
 
 use crate::channels::{Channel, channel_of};
+use crate::directions::{Arrival, Direction};
 use crate::meshes::{Mesh, mesh_of};
-use crate::refusals::{NOT_RISING, bad_list};
+use crate::plans::Plan;
+use crate::refusals::Refusal;
 
+/// Two channels between which a turn by 90 degrees is allowed, though the second's number is not the
+/// greater.
+#[derive(Clone, Copy, Debug, PartialEq, Eq)]
+pub struct Fall {
+    pub incoming: u16,
+    pub outgoing: u16,
+}
+
+/// The answer of `mesh_check` as C has it: the refusal, 14 with the first pair that falls, and both
+/// channels 0 with every other answer.
 #[repr(C)]
-#[derive(Clone, Copy)]
+#[derive(Clone, Copy, Debug, PartialEq, Eq)]
 pub struct Checked {
     pub refusal: u8,
     pub incoming: u16,
     pub outgoing: u16,
 }
 
+// C's number for a numbering that does not rise.
+const NOT_RISING: u8 = 14;
+
+impl From<Result<Option<Fall>, Refusal>> for Checked {
+    ghost from_gives = { λ answer c. c ≡ checked_of answer };
+
+    fn from(answer: Result<Option<Fall>, Refusal>) -> Checked {
+        match answer {
+            Ok(Some(fall)) => Checked {
+                refusal: NOT_RISING,
+                incoming: fall.incoming,
+                outgoing: fall.outgoing,
+            },
+            Ok(None) => Checked {
+                refusal: 0,
+                incoming: 0,
+                outgoing: 0,
+            },
+            Err(refusal) => Checked {
+                refusal: u8::from(refusal),
+                incoming: 0,
+                outgoing: 0,
+            },
+        }
+    }
+}
+
 // From a channel to one that leaves its end: is that an allowed turn by 90 degrees at which the numbers
 // do not rise?
-fn falls(m: Mesh, list: &[u16], incoming: usize, out: Channel) -> bool
+fn falls(m: Mesh, list: &[u16], incoming: u16, out: Channel) -> bool
     requires roomy { Roomy m }
     requires list_len { length list.now ≡ channels m.columns m.rows }
     requires ends { Ends (meant m) incoming out.start }
-    requires way_bound { out.way < 4 }
-    ensures { result ≡ falls (meant m) list.now incoming (channel m.columns out.start (dir_of out.way)) }
+    ensures { result ≡ falls (meant m) list.now incoming (channel m.columns out.start (facing out.way)) }
 {
-    let way = (incoming % 4) as u8;
-    if way / 2 == out.way / 2 {
+    let way = Direction::of_channel(incoming);
+    if !way.bends(out.way) {
         return false;
     }
     if !m.exists(out.start, out.way) {
         return false;
     }
-    if !m.turn_ok(out.start.column, way, out.way) {
+    if !m.turn_ok(out.start.column, Arrival::Going(way), out.way) {
         return false;
     }
-    let outgoing = out.number(m.columns) as usize;
-    let before = list[incoming];
-    let after = list[outgoing];
+    let before = list[incoming as usize];
+    let after = list[out.number(m.columns) as usize];
     after <= before
 }
 
-// The first channel to which the numbers do not rise from this one; the list's length if there is none.
-fn first_after(m: Mesh, list: &[u16], incoming: usize) -> usize
+// The first channel to which the numbers do not rise from this one.
+fn first_after(m: Mesh, list: &[u16], incoming: u16) -> Option<u16>
     requires roomy { Roomy m }
     requires list_len { length list.now ≡ channels m.columns m.rows }
     requires incoming_bound { incoming < channels m.columns m.rows }
-    ensures { result ≡ first_after (meant m) list.now incoming }
+    ensures bound { IfSome result (λ o. o < channels m.columns m.rows) }
+    ensures first { unwrap_or result (channels m.columns m.rows) ≡ first_after (meant m) list.now incoming }
 {
-    let from = channel_of(m.columns, incoming as u16);
+    let from = channel_of(m.columns, incoming);
     if !m.exists(from.start, from.way) {
-        return list.len();
+        return None;
     }
     let start = m.hop(from.start, from.way);
-    let mut way = 0;
-    while way < 4 {
+    for way in Direction::ALL {
         let out = Channel { start, way };
         if falls(m, list, incoming, out) {
-            return out.number(m.columns) as usize;
+            return Some(out.number(m.columns));
         }
-        way += 1;
     }
-    list.len()
-}
-
-// An answer that names no pair.
-fn no_pair(refusal: u8) -> Checked
-    ensures { result ≡ no_pair refusal }
-{
-    Checked {
-        refusal,
-        incoming: 0,
-        outgoing: 0,
-    }
+    None
 }
 
 // The first pair of channels at which the numbers do not rise.
-fn first_pair(m: Mesh, list: &[u16]) -> Checked
+fn first_pair(m: Mesh, list: &[u16]) -> Option<Fall>
     requires roomy { Roomy m }
     requires list_len { length list.now ≡ channels m.columns m.rows }
-    ensures { result ≡ first_pair (meant m) list.now }
+    ensures { pair_of result ≡ first_pair (meant m) list.now }
 {
-    let mut incoming = 0;
-    while incoming < list.len() {
-        let outgoing = first_after(m, list, incoming);
-        if outgoing < list.len() {
-            let from = incoming as u16;
-            let to = outgoing as u16;
-            return Checked {
-                refusal: NOT_RISING,
-                incoming: from,
-                outgoing: to,
-            };
+    for incoming in 0..list.len() as u16 {
+        if let Some(outgoing) = first_after(m, list, incoming) {
+            return Some(Fall { incoming, outgoing });
         }
-        incoming += 1;
     }
-    no_pair(0)
+    None
 }
 
-// Looks whether a list, whoever made it, rises at every turn by 90 degrees that the rule allows, and
-// names the first pair of channels at which it does not.
-pub fn mesh_check(columns: u8, rows: u8, rule: u8, list: &[u16]) -> Checked
-    ensures { result ≡ checked columns rows rule list.now }
+/// Looks whether a list, whoever made it, rises at every turn by 90 degrees that the rule allows, and
+/// names the first pair of channels at which it does not.
+pub fn mesh_check(plan: Plan, list: &[u16]) -> Result<Option<Fall>, Refusal>
+    ensures { checked_of result ≡ checked plan.columns plan.rows plan.rule list.now }
 {
-    let refusal = bad_list(columns, rows, rule, list.len());
-    if refusal != 0 {
-        return no_pair(refusal);
-    }
-    first_pair(mesh_of(columns, rows, rule), list)
+    let rule = plan.list_rule(list.len())?;
+    Ok(first_pair(mesh_of(plan.columns, plan.rows, rule), list))
 }

@@ -3,12 +3,14 @@
 ghost use Rattle.std.specs.Prelude.{◌≡◌, ◌+◌, ◌*◌, ◌≤◌, ◌<◌};
 ghost use Rattle.route.specs.Turns.{parity, xy, west_first, north_last, negative_first, odd_even};
 ghost use Rattle.route.specs.Mesh.{Inside};
-ghost use Rattle.route.specs.Numbers.{dir_of, rule_of};
+ghost use Rattle.route.specs.Numbers.{facing, published};
 ghost use Rattle.route.specs.House.{by_parity, house};
 ghost use Rattle.route.specs.Coded.{meant, Roomy, framed, Framed, in_frame};
 
+use crate::directions::Direction;
 use crate::meshes::Mesh;
 use crate::places::Place;
+use crate::rules::Rule;
 
 // A place in its mesh: `c` columns lie west of it and `u` east, `r` rows south and `d` north.
 #[derive(Clone, Copy)]
@@ -49,61 +51,57 @@ fn lane(place: u16, side: u16) -> u16
 }
 
 // xy: the rows' channels first, then the columns'.
-fn xy(f: Frame, direction: u8) -> u16
-    requires framed { Framed f }
-    requires direction_bound { direction < 4 }
-    ensures { result ≡ in_frame xy f (dir_of direction) }
+fn xy(f: Frame, direction: Direction) -> u16
+    requires { Framed f }
+    ensures { result ≡ in_frame xy f (facing direction) }
 {
     match direction {
-        0 => f.u,
-        1 => f.c,
-        2 => f.columns + f.d,
-        _ => f.columns + f.r,
+        Direction::West => f.u,
+        Direction::East => f.c,
+        Direction::South => f.columns + f.d,
+        Direction::North => f.columns + f.r,
     }
 }
 
 // West-first: the west channels, then column by column from the west.
-fn west_first(f: Frame, direction: u8) -> u16
-    requires framed { Framed f }
-    requires direction_bound { direction < 4 }
-    ensures { result ≡ in_frame west_first f (dir_of direction) }
+fn west_first(f: Frame, direction: Direction) -> u16
+    requires { Framed f }
+    ensures { result ≡ in_frame west_first f (facing direction) }
 {
     let base = f.columns + lane(f.c, f.rows);
     match direction {
-        0 => f.u,
-        1 => base + f.rows,
-        2 => base + f.d,
-        _ => base + f.r,
+        Direction::West => f.u,
+        Direction::East => base + f.rows,
+        Direction::South => base + f.d,
+        Direction::North => base + f.r,
     }
 }
 
 // North-last: row by row from the north, then the north channels.
-fn north_last(f: Frame, direction: u8) -> u16
-    requires framed { Framed f }
-    requires direction_bound { direction < 4 }
-    ensures { result ≡ in_frame north_last f (dir_of direction) }
+fn north_last(f: Frame, direction: Direction) -> u16
+    requires { Framed f }
+    ensures { result ≡ in_frame north_last f (facing direction) }
 {
     let base = lane(f.d, f.columns);
     let last = lane(f.rows, f.columns);
     match direction {
-        0 => base + f.u,
-        1 => base + f.c,
-        2 => base + f.columns,
-        _ => last + f.r,
+        Direction::West => base + f.u,
+        Direction::East => base + f.c,
+        Direction::South => base + f.columns,
+        Direction::North => last + f.r,
     }
 }
 
 // Negative-first: down to the corner of west and south, then up from it.
-fn negative_first(f: Frame, direction: u8) -> u16
-    requires framed { Framed f }
-    requires direction_bound { direction < 4 }
-    ensures { result ≡ in_frame negative_first f (dir_of direction) }
+fn negative_first(f: Frame, direction: Direction) -> u16
+    requires { Framed f }
+    ensures { result ≡ in_frame negative_first f (facing direction) }
 {
     let corner = f.columns + f.rows - 2;
-    if direction % 2 == 0 {
-        return corner - f.c - f.r;
+    match direction {
+        Direction::West | Direction::South => corner - f.c - f.r,
+        Direction::East | Direction::North => corner + f.c + f.r,
     }
-    corner + f.c + f.r
 }
 
 // Odd-even: the place of the lane of a column's own channels, which comes before the west hops out of
@@ -119,34 +117,31 @@ fn own_lane(f: Frame) -> u16
 }
 
 // Odd-even: lanes for going west, from the east, then lanes for going east, from the west.
-fn odd_even(f: Frame, direction: u8) -> u16
-    requires framed { Framed f }
-    requires direction_bound { direction < 4 }
-    ensures { result ≡ in_frame odd_even f (dir_of direction) }
+fn odd_even(f: Frame, direction: Direction) -> u16
+    requires { Framed f }
+    ensures { result ≡ in_frame odd_even f (facing direction) }
 {
     let own = lane(own_lane(f), f.rows);
     match direction {
-        0 => lane(f.u, f.rows) + f.rows,
-        1 => lane(f.columns + f.c, f.rows) + f.rows,
-        2 => own + f.d,
-        _ => own + f.r,
+        Direction::West => lane(f.u, f.rows) + f.rows,
+        Direction::East => lane(f.columns + f.c, f.rows) + f.rows,
+        Direction::South => own + f.d,
+        Direction::North => own + f.r,
     }
 }
 
 // The house number of the channel that leaves a place in a direction, under a published rule.
-pub fn house_number(m: Mesh, rule: u8, here: Place, direction: u8) -> u16
+pub fn house_number(m: Mesh, rule: Rule, here: Place, direction: Direction) -> u16
     requires roomy { Roomy m }
     requires inside { Inside (meant m) here }
-    requires rule_bound { rule < 5 }
-    requires direction_bound { direction < 4 }
-    ensures { result ≡ house (rule_of rule) (meant m) here (dir_of direction) }
+    ensures { result ≡ house (published rule) (meant m) here (facing direction) }
 {
     let f = frame_of(m, here);
     match rule {
-        0 => xy(f, direction),
-        1 => west_first(f, direction),
-        2 => north_last(f, direction),
-        3 => negative_first(f, direction),
-        _ => odd_even(f, direction),
+        Rule::Xy => xy(f, direction),
+        Rule::WestFirst => west_first(f, direction),
+        Rule::NorthLast => north_last(f, direction),
+        Rule::NegativeFirst => negative_first(f, direction),
+        Rule::OddEven => odd_even(f, direction),
     }
 }

@@ -11,21 +11,24 @@
 mod answers;
 mod channels;
 mod checks;
+mod directions;
 mod formulas;
 mod meshes;
 mod numberings;
 mod places;
+mod plans;
 mod refusals;
 mod routes;
+mod rules;
 
 pub use answers::outputs_at;
-pub use channels::{Channel, channel_of};
-pub use checks::{Checked, mesh_check};
-pub use meshes::{LOCAL, Mesh, mesh_of};
+pub use channels::{Channel, channel_of, is_channel};
+pub use checks::{Checked, Fall, mesh_check};
+pub use directions::{Arrival, Direction};
+pub use meshes::{Mesh, mesh_of};
 pub use numberings::mesh_number;
 pub use places::{Column, Place, Row, node_of, place_of};
-pub use refusals::{
-    BAD_FLITS, BAD_LIST, BAD_MEMORY, BAD_MOVE, BAD_NODE, BAD_SIZE, FULL, NOT_NOW, SAME_NODE,
-    bad_mesh,
-};
+pub use plans::Plan;
+pub use refusals::{Refusal, code_of};
 pub use routes::{Routed, mesh_route};
+pub use rules::Rule;

@@ -1,60 +1,54 @@
 // The routing call: refusals in their order, then the outputs.
 ghost use Rattle.std.specs.Prelude.{◌≡◌};
-ghost use Rattle.route.specs.Route.{refuse, routed};
+ghost use Rattle.route.specs.Route.{routed, routed_of};
 
 use crate::answers::outputs_at;
-use crate::meshes::mesh_of;
 use crate::places::place_of;
-use crate::refusals::{BAD_ARRIVAL, BAD_NODE, NO_PATH, bad_mesh};
+use crate::plans::Plan;
+use crate::refusals::Refusal;
 
+/// The answer of `mesh_route` as C has it: the refusal, and the set of outputs, empty with a refusal.
 #[repr(C)]
-#[derive(Clone, Copy)]
+#[derive(Clone, Copy, Debug, PartialEq, Eq)]
 pub struct Routed {
     pub refusal: u8,
     pub outputs: u8,
 }
 
-// The answer of a call that refuses.
-fn refused(refusal: u8) -> Routed
-    ensures { result ≡ refuse refusal }
-{
-    Routed {
-        refusal,
-        outputs: 0,
+impl From<Result<u8, Refusal>> for Routed {
+    ghost from_gives = { λ answer r. r ≡ routed_of answer };
+
+    fn from(answer: Result<u8, Refusal>) -> Routed {
+        match answer {
+            Ok(outputs) => Routed {
+                refusal: 0,
+                outputs,
+            },
+            Err(refusal) => Routed {
+                refusal: u8::from(refusal),
+                outputs: 0,
+            },
+        }
     }
 }
 
-// The outputs at a node for a packet that arrived travelling `arrival`, or starts there, and goes
-// to another node: exactly the first hops of the shortest paths that the rule allows.
-pub fn mesh_route(
-    columns: u8,
-    rows: u8,
-    rule: u8,
-    node: u16,
-    arrival: u8,
-    destination: u16,
-) -> Routed
-    ensures { result ≡ routed columns rows rule node arrival destination }
+/// The outputs at a node for a packet that arrived travelling `arrival`, or starts there, and goes
+/// to another node: exactly the first hops of the shortest paths that the rule allows.
+pub fn mesh_route(plan: Plan, node: u16, arrival: u8, destination: u16) -> Result<u8, Refusal>
+    ensures { routed_of result ≡ routed plan.columns plan.rows plan.rule node arrival destination }
 {
-    let refusal = bad_mesh(columns, rows, rule);
-    if refusal != 0 {
-        return refused(refusal);
-    }
-    let nodes = (columns as u16) * (rows as u16);
+    let m = plan.mesh()?;
+    let nodes = m.nodes();
     if (nodes <= node) | (nodes <= destination) {
-        return refused(BAD_NODE);
+        return Err(Refusal::BadNode);
     }
-    let m = mesh_of(columns, rows, rule);
-    let here = place_of(columns, node);
-    if !m.arrives(here, arrival) {
-        return refused(BAD_ARRIVAL);
-    }
-    let outputs = outputs_at(m, here, arrival, place_of(columns, destination));
+    let here = place_of(m.columns, node);
+    let Some(arrival) = m.arrives(here, arrival) else {
+        return Err(Refusal::BadArrival);
+    };
+    let outputs = outputs_at(m, here, arrival, place_of(m.columns, destination));
     if outputs == 0 {
-        return refused(NO_PATH);
+        return Err(Refusal::NoPath);
     }
-    Routed {
-        refusal: 0,
-        outputs,
-    }
+    Ok(outputs)
 }

@@ -1,4 +1,5 @@
-// The calls of `route`, for C: each is the library's own, with its promise. `include/mesh.h` declares them.
+// The calls of `route`, for C: each is the library's own, with its promise. A plan comes as its three
+// numbers, and the answer goes in C's form. `include/mesh.h` declares them.
 #![tactic(auto)]
 
 ghost use Rattle.std.specs.Prelude.{◌≡◌};
@@ -6,7 +7,7 @@ ghost use Rattle.route.specs.Route.{routed};
 ghost use Rattle.route.specs.House.{numbered};
 ghost use Rattle.route.specs.Check.{checked};
 
-use route::{Checked, Routed};
+use route::{Checked, Plan, Routed, code_of};
 
 // `route::mesh_route`.
 #[unsafe(no_mangle)]
@@ -20,7 +21,12 @@ pub extern "C" fn mesh_route(
 ) -> Routed
     ensures { result ≡ routed columns rows rule node arrival destination }
 {
-    route::mesh_route(columns, rows, rule, node, arrival, destination)
+    let plan = Plan {
+        columns,
+        rows,
+        rule,
+    };
+    Routed::from(route::mesh_route(plan, node, arrival, destination))
 }
 
 // `route::mesh_number`.
@@ -28,7 +34,12 @@ pub extern "C" fn mesh_route(
 pub extern "C" fn mesh_number(columns: u8, rows: u8, rule: u8, list: &mut [u16]) -> u8
     ensures { record { refusal = result; list = list.new } ≡ numbered columns rows rule list.old }
 {
-    route::mesh_number(columns, rows, rule, list)
+    let plan = Plan {
+        columns,
+        rows,
+        rule,
+    };
+    code_of(route::mesh_number(plan, list))
 }
 
 // `route::mesh_check`.
@@ -36,5 +47,10 @@ pub extern "C" fn mesh_number(columns: u8, rows: u8, rule: u8, list: &mut [u16])
 pub extern "C" fn mesh_check(columns: u8, rows: u8, rule: u8, list: &[u16]) -> Checked
     ensures { result ≡ checked columns rows rule list.now }
 {
-    route::mesh_check(columns, rows, rule, list)
+    let plan = Plan {
+        columns,
+        rows,
+        rule,
+    };
+    Checked::from(route::mesh_check(plan, list))
 }

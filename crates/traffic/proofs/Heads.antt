@@ -1,7 +1,7 @@
 -- Headers along their bytes: how many there are, where each stands, and what no refusal of them has taught. Assumes nothing.
 use Prim.Native.Nat.{ℕ, zero, suc, ◌+◌, ◌-◌, ◌*◌, ◌/◌, ◌≤◌, ◌<◌}
 use mathlib.Core.Path.{◌≡◌, refl, sym, ◌∙◌, ap}
-use mathlib.Core.Bool.{Bool, true, false, not, ◌||◌}
+use mathlib.Core.Bool.{not, ◌||◌}
 use mathlib.Core.List.{List, [], ◌∷◌, ◌++◌}
 use native.Mathlib.Numerals.{add-one, add-two, add-three}
 use native.Mathlib.Omega.{arith}
@@ -12,8 +12,9 @@ use mir.Facts.{T_not-not, and_yes, or_no, leb_yes, leb_no}
 use Rattle.route.specs.Grid.{horiz, vert, coord}
 use Rattle.route.specs.Numbers.{node}
 use Rattle.route.specs.Paths.{same_place}
-use Rattle.route.specs.Served.{unless}
-use Rattle.route.proofs.Promises.{refuses}
+use Rattle.route.specs.declared.refusals.Refusal.{Refusal}
+use Rattle.route.specs.Served.{unless, code}
+use Rattle.route.proofs.Promises.{refuses_by}
 use Rattle.wormhole.specs.declared.records.Record.{Record}
 use Rattle.wormhole.specs.Memory.{none, fresh}
 use Rattle.wormhole.specs.Range.{flits_served}
@@ -156,35 +157,21 @@ module _ (bs : List ℕ) (i : ℕ) (low : i < length bs / 3) {h : Header} (eh : 
   packet_made C ea eb er =
       er ∙ rw (ea, eb, packet_there C (headers bs) i h (omega (arith, length_headers bs)), same_header) refl
 
--- ---- a loop that asks each header, and has come to byte `at`
-module _ (C R : ℕ) (bs : List ℕ) (at : ℕ) (e : bad_headers C R (headers bs) ≡ bad_headers C R (headers (drop at bs))) where
-  pub asked_all : length bs ≤ at + 2 → 0 ≡ bad_headers C R (headers bs)
+-- ---- a loop that asks each header, and has come to header i
+module _ (C R : ℕ) (bs : List ℕ) (i : ℕ) (e : bad_headers C R (headers bs) ≡ bad_headers C R (headers (drop (3 * i) bs))) where
+  pub asked_all : length bs / 3 ≤ i → 0 ≡ bad_headers C R (headers bs)
   unfolding bad_headers
-  asked_all h = rw (e, headers_end bs at h) refl
+  asked_all h = rw (e, headers_end bs (3 * i) (omega arith)) refl
 
-  module _ (h : at + 2 < length bs) {x : Header} (ex : x ≡ header (get_or bs at 0) (get_or bs (at + 1) 0) (get_or bs (at + 2) 0)) {k : ℕ} (hk : k ≡ bad_header C R x) where
-    next : bad_headers C R (headers bs) ≡ unless (λ j. j) k (bad_headers C R (headers (drop (at + 3) bs)))
+  module _ (h : 3 * i + 2 < length bs) {x : Header} (ex : x ≡ header (get_or bs (3 * i) 0) (get_or bs (3 * i + 1) 0) (get_or bs (3 * i + 2) 0)) {k : ℕ} (hk : k ≡ bad_header C R x) where
+    next : bad_headers C R (headers bs) ≡ unless (λ j. j) k (bad_headers C R (headers (drop (3 * i + 3) bs)))
     unfolding bad_headers
-    next = rw (e, headers_more bs at h, hk, ex) refl
+    next = rw (e, headers_more bs (3 * i) h, hk, ex) refl
 
-    pub asked_more : k ≡ 0 → bad_headers C R (headers bs) ≡ bad_headers C R (headers (drop (at + 3) bs))
-    asked_more z = next ∙ rw z refl
+    pub asked_more : k ≡ 0 → bad_headers C R (headers bs) ≡ bad_headers C R (headers (drop (3 * (i + 1)) bs))
+    asked_more z =
+        let f : 3 * (i + 1) ≡ 3 * i + 3 = omega arith in
+        rw f (next ∙ rw z refl)
 
-    pub asked_stop : (k ≡ 0 → ⊥) → k ≡ bad_headers C R (headers bs)
-    asked_stop n = sym (next ∙ refuses (λ j. j) _ k n)
-
--- ---- a header's refusals, each from the tests before it
-module _ (C R : ℕ) (h : Header) {x y : Bool} (ex : x ≡ outside C R h.source) (ey : y ≡ outside C R h.destination) where
-  pub off_mesh : x || y ≡ true → 3 ≡ bad_header C R h
-  off_mesh t = rw (rw (ex, ey) at t) refl
-
-  module _ (t : x || y ≡ false) where
-    pub off_flits : not (flits_served h.flits) ≡ true → 6 ≡ bad_header C R h
-    off_flits s = rw (rw (ex, ey) at t, s) refl
-
-    module _ (s : not (flits_served h.flits) ≡ false) {b : Bool} (eb : b ≡ same_place h.source h.destination) where
-      pub off_still : b ≡ true → 5 ≡ bad_header C R h
-      off_still u = rw (rw (ex, ey) at t, s, sym eb ∙ u) refl
-
-      pub off_nothing : b ≡ false → 0 ≡ bad_header C R h
-      off_nothing u = rw (rw (ex, ey) at t, s, sym eb ∙ u) refl
+    pub asked_stop : (r : Refusal) → k ≡ code r → code r ≡ bad_headers C R (headers bs)
+    asked_stop r n = sym (next ∙ rw n (refuses_by (λ j. j) _ r))

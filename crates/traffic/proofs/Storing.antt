@@ -9,7 +9,11 @@ use lib.ListN.{length, set, get_or, length-set}
 use Rattle.wormhole.specs.declared.records.Record.{Record}
 use Rattle.wormhole.specs.Memory.{none}
 use Rattle.traffic.specs.Calls.{filled}
-use Rattle.traffic.specs.Coded.{stored}
+
+-- records of which the first n are replaced
+unfoldable pub stored : List Record → List Record → ℕ → List Record
+stored ps rs zero = rs
+stored ps rs (suc i) = set (stored ps rs i) i (get_or ps i none)
 
 pub length_stored : (ps rs : List Record) (n : ℕ) → length (stored ps rs n) ≡ length rs
 unfolding stored

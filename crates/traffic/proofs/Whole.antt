@@ -1,70 +1,59 @@
 -- The two calls as wholes: what the parts of a call leave is what its promise says, by the cases of the refusal. Assumes nothing.
-use Prim.Native.Nat.{ℕ, zero, suc, ◌+◌, ◌-◌, ◌*◌, ◌≤◌, ◌<◌}
-use mathlib.Core.Path.{◌≡◌, refl, sym, ◌∙◌, ap}
-use mathlib.Core.Bool.{Bool, true, false, ◌&&◌}
+use Prim.Native.Nat.{ℕ, zero, suc, ◌+◌, ◌-◌, ◌*◌, ◌≤◌}
+use mathlib.Core.Path.{◌≡◌, refl, sym, subst, ◌∙◌, ap}
+use mathlib.Core.Bool.{Bool, true, false}
 use mathlib.Core.List.{List, [], ◌∷◌}
 use native.Mathlib.Numerals.{add-one}
 use native.Mathlib.Omega.{arith}
 use lib.Dec.{eqb}
 use lib.ListN.{length, get_or, replicate, length-append}
+use Rattle.route.specs.declared.refusals.Refusal.{Refusal}
 use Rattle.route.specs.Grid.{pick}
-use Rattle.route.specs.Numbers.{channels}
-use Rattle.route.specs.Served.{unless}
+use Rattle.route.specs.Mesh.{Mesh, ruled}
+use Rattle.route.specs.Numbers.{channels, rule_of}
+use Rattle.route.specs.Served.{code}
+use Rattle.route.proofs.Promises.{refuses_by}
 use Rattle.wormhole.specs.declared.records.Record.{Record}
 use Rattle.wormhole.specs.Memory.{net, sections, none}
-use Rattle.wormhole.specs.Range.{words_fit, record_fits}
+use Rattle.wormhole.specs.Range.{every, words_fit, record_fits}
 use Rattle.wormhole.specs.Calls.{left, fits}
-use Rattle.wormhole.specs.Coded.{sides, surveyed, wiped_words}
-use Rattle.wormhole.proofs.Every.{both}
-use Rattle.wormhole.proofs.Whole.{fits_at, surveyed_fit}
-use Rattle.traffic.specs.declared.reads.ListRead.{ListRead}
-use Rattle.traffic.specs.Lists.{lead, after_lead, bad_headers, packets, lead_bytes, node_byte, record_bytes, records_bytes, list_of}
-use Rattle.traffic.specs.Calls.{bad_read, read_answer, filled, read, Output, written, over, bad_write, write}
-use Rattle.traffic.specs.Coded.{Page, page, puts, served_count, stored, Start, start, starts}
+use Rattle.wormhole.proofs.Every.{both, every_at}
+use Rattle.traffic.specs.declared.lists.Lead.{Lead}
+use Rattle.traffic.specs.Lists.{listed, lead, after_lead, bad_headers, packets, lead_bytes, node_byte, record_bytes, records_bytes, list_of}
+use Rattle.traffic.specs.Calls.{bad_read, told, read, Output, written, over, bad_write, write}
+use Rattle.traffic.specs.Coded.{Page, page, put, puts}
 use Rattle.traffic.proofs.Heads.{length_packets}
-use Rattle.traffic.proofs.Putting.{puts_append, length_puts, puts_over}
-use Rattle.traffic.proofs.Refusals.{listing, readable, writable}
-use Rattle.traffic.proofs.Storing.{stored_all}
+use Rattle.traffic.proofs.Putting.{putting, put_last, puts_append, length_puts, puts_over}
+use Rattle.traffic.proofs.Refusals.{listing, Readable, readable, Writable, writable}
+use Rattle.traffic.proofs.Storing.{stored, stored_all}
 
 -- ---- read
-module _ (bs : List ℕ) (words records : ℕ) where
-  -- the answer, and how many records are filled
-  abbrev pub reads : ListRead
-  reads = read_answer bs (bad_read bs words records)
+module _ (bs w : List ℕ) (rs : List Record) where
+  pub read_refused : (e : Refusal) → code e ≡ bad_read bs (length w) (length rs) → left (told (code e) 0 0 0 0) w rs ≡ read bs w rs
+  unfolding read
+  read_refused e h = rw (sym h, refuses_by (λ k. told k 0 0 0 0) _ e) (sym (refuses_by (λ _. left (told (code e) 0 0 0 0) w rs) _ e))
 
-  abbrev pub fills : ℕ
-  fills = served_count reads.refusal records
+  -- it is read, into the mesh g of its lead
+  module _ (served : 0 ≡ bad_read bs (length w) (length rs)) {g : Mesh} (eg : g ≡ ruled (rule_of (lead bs).rule) (lead bs).columns (lead bs).rows 0) where
+    abbrev told_so : Readable bs (length w) (length rs)
+    told_so = readable bs (length w) (length rs) served refl
 
-  -- at most all
-  pub fills_few : fills ≤ records
-  fills_few = at (bad_read bs words records)
-    where
-      at : (k : ℕ) → served_count (read_answer bs k).refusal records ≤ records
-      at zero = omega arith
-      at (suc k) = omega arith
+    pub read_long : listed (length bs) ≡ true
+    read_long = told_so.long
 
-  -- and some only of a list whose packets can be served
-  pub fills_good : {i : ℕ} → i < fills → (2 ≤ length bs) × (bad_headers reads.columns reads.rows (after_lead bs) ≡ 0)
-  fills_good {i} = at (bad_read bs words records) refl
-    where
-      at : (k : ℕ) → bad_read bs words records ≡ k → i < served_count (read_answer bs k).refusal records
-          → (2 ≤ length bs) × (bad_headers (read_answer bs k).columns (read_answer bs k).rows (after_lead bs) ≡ 0)
-      at zero e h = let r = readable bs words records (sym e) refl in ((listing (length bs) r.long).some, r.good)
-      at (suc k) e h = absurd (omega arith)
+    pub read_lead : 2 ≤ length bs
+    read_lead = (listing (length bs) told_so.long).some
 
-pub whole_read : (bs w : List ℕ) (rs : List Record) → let o = reads bs (length w) (length rs) in
-    left o (wiped_words (bad_read bs (length w) (length rs)) w) (stored (packets o.columns (after_lead bs)) rs (fills bs (length w) (length rs))) ≡ read bs w rs
-unfolding read stored
-whole_read bs w rs = at (bad_read bs (length w) (length rs)) refl
-  where
-    at : (k : ℕ) → bad_read bs (length w) (length rs) ≡ k → let o = read_answer bs k in
-        left o (wiped_words k w) (stored (packets o.columns (after_lead bs)) rs (served_count o.refusal (length rs)))
-        ≡ unless (λ c. left (read_answer bs k) w rs) k (left (read_answer bs k) (replicate (length w) 0) (filled (packets (lead bs).columns (after_lead bs)) (length rs)))
-    at zero e =
-        let ps = packets (lead bs).columns (after_lead bs) in
-        let few : length ps ≤ length rs = omega (arith, (readable bs (length w) (length rs) (sym e) refl).few, length_packets (lead bs).columns (after_lead bs)) in
-        ap (left (read_answer bs 0) (replicate (length w) 0)) (stored_all ps rs few)
-    at (suc k) e = refl
+    pub read_good : bad_headers g.columns g.rows (after_lead bs) ≡ 0
+    read_good = rw eg told_so.good
+
+    few : length (packets (lead bs).columns (after_lead bs)) ≤ length rs
+    few = omega (arith, told_so.few, length_packets (lead bs).columns (after_lead bs))
+
+    pub read_done : {v : List ℕ} {qs : List Record} {i n : ℕ} {l : Lead} → v ≡ replicate (length w) 0 → qs ≡ stored (packets g.columns (after_lead bs)) rs i → i ≡ length rs
+        → l ≡ lead bs → n ≡ length (after_lead bs) → left (told 0 l.columns l.rows l.rule n) v qs ≡ read bs w rs
+    unfolding read
+    read_done ev eq ei el en = rw (sym served, ev, rw eg at eq, ei, stored_all (packets (lead bs).columns (after_lead bs)) rs few, el, en) refl
 
 -- ---- the page once the first records are written
 module _ (C : ℕ) where
@@ -107,66 +96,48 @@ module _ (C : ℕ) where
 abbrev leaving : ℕ → Page → Output
 leaving k p = record { answer = written k p.end; bytes = p.bytes }
 
--- a record that can be written
-pub record Writing (C R : ℕ) (r : Record) : Type 0 where
-  pub columns : C ≤ 16
-  pub rows : R ≤ 16
-  pub fits : record_fits (sides C R) r ≡ true
-
 module _ (C R rule : ℕ) (w : List ℕ) (rs : List Record) (out : List ℕ) where
-  -- what the call begins with, and the page that it ends with
-  abbrev pub begins : Start
-  begins = starts C R rule w (surveyed C R rs (length rs)).fit (length rs) out
+  pub write_refused : (e : Refusal) → code e ≡ bad_write C R rule (length w) (length rs) (length out) (fits C R rule w rs) → record { answer = written (code e) 0; bytes = out } ≡ write C R rule w rs out
+  unfolding write
+  write_refused e h = rw (sym h) (sym (refuses_by (λ k. record { answer = written k 0; bytes = out }) _ e))
 
-  abbrev pub ends : Page
-  ends = wrote C begins.onto rs begins.count
+  -- it is written, from the mesh g of the plan
+  module _ (served : 0 ≡ bad_write C R rule (length w) (length rs) (length out) (fits C R rule w rs)) {g : Mesh} (eg : g ≡ ruled (rule_of rule) C R 0) where
+    abbrev room : Writable C R rule (length w) (length rs) (length out) (fits C R rule w rs)
+    room = writable C R rule (length w) (length rs) (length out) (fits C R rule w rs) served refl
 
-  -- the refusal, where it is known whether memory is in range, and what the call begins with then
-  abbrev refusal : Bool → ℕ
-  refusal fits = bad_write C R rule (length w) (length rs) (length out) fits
+    pub write_columns : g.columns ≤ 16
+    write_columns = rw eg room.sizes.mesh.columns_high
 
-  abbrev begun : ℕ → Start
-  begun k = unless (λ c. start c 0 (page out 0)) k (start 0 (length rs) (puts (page out 0) (lead_bytes C R rule)))
+    pub write_rows : g.rows ≤ 16
+    write_rows = rw eg room.sizes.mesh.rows_high
 
-  abbrev in_words : Bool
-  in_words = words_fit (net C R rule) (length rs) (sections (channels C R) w)
+    -- each record can be
+    pub write_fits : (i : ℕ) → record_fits g (get_or rs i none) ≡ true
+    unfolding record_fits
+    write_fits i =
+        let e = (both (words_fit (net C R rule) (length rs) (sections (channels C R) w)) (every (record_fits (net C R rule).mesh) rs) room.in_range).1 in
+        subst (λ m. record_fits m (get_or rs i none) ≡ true) (sym eg) (every_at (record_fits (net C R rule).mesh) none refl rs e i)
 
-  -- at most all records are written
-  pub begins_few : begins.count ≤ length rs
-  unfolding starts
-  begins_few = at (refusal (in_words && (surveyed C R rs (length rs)).fit))
-    where
-      at : (k : ℕ) → (begun k).count ≤ length rs
-      at zero = omega arith
-      at (suc k) = omega arith
+    abbrev bs : List ℕ
+    bs = list_of C R rule rs
 
-  -- and some only where each of them can be
-  pub begins_writing : {i : ℕ} → i < begins.count → Writing C R (get_or rs i none)
-  unfolding starts
-  begins_writing {i} = at (refusal (in_words && fit)) refl
-    where
-      fit : Bool
-      fit = (surveyed C R rs (length rs)).fit
+    -- the page once all records are written to it
+    module _ {p q : Page} {i : ℕ} (ep : p ≡ puts (page out 0) (lead_bytes C R rule)) (eq : q ≡ wrote g.columns p rs i) (ei : i ≡ length rs) where
+      short : length bs ≤ 194
+      short = omega (arith, few_bytes C rs, room.sizes.few)
 
-      at : (k : ℕ) → refusal (in_words && fit) ≡ k → i < (begun k).count → Writing C R (get_or rs i none)
-      at zero e h =
-          let s = writable C R rule (length w) (length rs) (length out) (in_words && fit) (sym e) refl in
-          record { columns = s.sizes.mesh.columns_high; rows = s.sizes.mesh.rows_high; fits = fits_at C R rs i (both in_words fit s.in_range).1 }
-      at (suc k) e h = absurd (omega arith)
+      all_written : q ≡ page (over bs out) (length bs)
+      all_written =
+          rw eg at eq ∙ rw (ep, ei) (wrote_all C (puts (page out 0) (lead_bytes C R rule)) rs ∙ (sym (puts_append (page out 0) (lead_bytes C R rule) (records_bytes C rs)) ∙ puts_over bs out (omega (arith, short, room.room))))
 
-  -- and the bytes are few
-  pub whole_write : (leaving begins.refusal ends ≡ write C R rule w rs out) × (ends.end < 65536)
-  unfolding write starts wrote
-  whole_write = rw (surveyed_fit C R rule rs) (at (refusal (fits C R rule w rs)) refl)
-    where
-      bs : List ℕ
-      bs = list_of C R rule rs
+      pub write_short : q.end ≤ 194
+      write_short = omega (arith, short, ap (λ (p : Page). p.end) all_written)
 
-      at : (k : ℕ) → refusal (fits C R rule w rs) ≡ k → let p = wrote C (begun k).onto rs (begun k).count in
-          (leaving (begun k).refusal p ≡ unless (λ c. leaving c (page out 0)) k (leaving 0 (page (over bs out) (length bs)))) × (p.end < 65536)
-      at zero e =
-          let s = writable C R rule (length w) (length rs) (length out) (fits C R rule w rs) (sym e) refl in
-          let few : length bs ≤ 194 = omega (arith, few_bytes C rs, s.sizes.few) in
-          let q = wrote_all C (puts (page out 0) (lead_bytes C R rule)) rs ∙ (sym (puts_append (page out 0) (lead_bytes C R rule) (records_bytes C rs)) ∙ puts_over bs out (omega (arith, few, s.room))) in
-          (ap (leaving 0) q, rw q (omega (arith, few)))
-      at (suc k) e = (refl, omega arith)
+      pub write_done : leaving 0 q ≡ write C R rule w rs out
+      unfolding write
+      write_done = rw (sym served, all_written) refl
+
+-- the lead's two bytes, put one after the other
+pub lead_put : (C R rule : ℕ) (p : Page) {q t : Page} → q ≡ put p ((C - 1) * 16 + (R - 1)) → t ≡ put q (rule * 32) → t ≡ puts p (lead_bytes C R rule)
+lead_put C R rule p {q} eq et = put_last q (rule * 32) et ∙ putting p ((C - 1) * 16 + (R - 1)) (rule * 32 ∷ []) eq

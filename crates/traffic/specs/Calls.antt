@@ -1,13 +1,15 @@
 -- The two calls: their refusals in order, and the memory that they leave. Assumes nothing.
-use Rattle.std.specs.Prelude.{ℕ, ◌+◌, ◌-◌, Bool, List, [], ◌∷◌, ◌++◌, leb, eqb, length, drop, replicate}
+use Rattle.std.specs.Prelude.{ℕ, ◌+◌, ◌-◌, Bool, List, [], ◌∷◌, ◌++◌, leb, eqb, length, drop, replicate, Result, Ok, Err}
 use Rattle.route.specs.Grid.{pick}
 use Rattle.route.specs.Numbers.{node}
-use Rattle.route.specs.Served.{unless, bad_mesh}
+use Rattle.route.specs.declared.refusals.Refusal.{Refusal}
+use Rattle.route.specs.Served.{unless, bad_mesh, code}
 use Rattle.wormhole.specs.declared.records.Record.{Record}
 use Rattle.wormhole.specs.Memory.{none}
 use Rattle.wormhole.specs.Calls.{Left, left, bad_size, fits}
 use Rattle.wormhole.specs.Drains.{Call, offering, owes}
 use Rattle.traffic.specs.declared.headers.Header.{Header}
+use Rattle.traffic.specs.declared.reads.Contents.{Contents}
 use Rattle.traffic.specs.declared.reads.ListRead.{ListRead}
 use Rattle.traffic.specs.declared.pages.Written.{Written}
 use Rattle.traffic.specs.Lists.{listed, lead, after_lead, bad_headers, packets, list_of}
@@ -27,6 +29,11 @@ bad_read bs words records =
 -- the answer: a refusal, columns, rows, rule, and how many packets
 abbrev pub told : ℕ → ℕ → ℕ → ℕ → ℕ → ListRead
 told k C R rule n = record { refusal = k; columns = C; rows = R; rule = rule; packets = n }
+
+-- as a library has it: what the list has, or a refusal
+abbrev pub read_of : Result Contents Refusal → ListRead
+read_of (Ok c) = told 0 c.plan.columns c.plan.rows c.plan.rule c.packets
+read_of (Err e) = told (code e) 0 0 0 0
 
 -- of a list, whose refusal is known
 abbrev pub read_answer : List ℕ → ℕ → ListRead
@@ -71,6 +78,11 @@ pub record Output : Type 0 where
 -- the answer: a refusal, and how many bytes were written
 abbrev pub written : ℕ → ℕ → Written
 written k n = record { refusal = k; length = n }
+
+-- as a library has it: a length, or a refusal
+abbrev pub written_of : Result ℕ Refusal → Written
+written_of (Ok n) = written 0 n
+written_of (Err e) = written (code e) 0
 
 -- these bytes stand at the start of the lent ones, and later ones stay
 abbrev pub over : List ℕ → List ℕ → List ℕ

@@ -1,13 +1,14 @@
 // The headers of a traffic list, three bytes each, as a slice of their own.
 ghost use Rattle.std.specs.Prelude.{◌≡◌, ◌∷◌, suc, ◌+◌, ◌<◌, ◌≤◌, length, get_or, drop};
+ghost use Rattle.route.specs.Served.{refusal_of};
 ghost use Rattle.wormhole.specs.Memory.{none};
 ghost use Rattle.traffic.specs.Lists.{place_in, header, headers, after_lead, outside, bad_header, bad_headers, packets};
 
-use route::{BAD_FLITS, BAD_NODE, Column, Place, Row, SAME_NODE, node_of};
-use wormhole::{MOST_FLITS, Record, fresh, none};
+use route::{Column, Mesh, Place, Refusal, Row, node_of};
+use wormhole::{MOST_FLITS, Record, fresh};
 
-// A packet as a list has it.
-#[derive(Clone, Copy)]
+/// A packet as a list has it.
+#[derive(Clone, Copy, Debug, PartialEq, Eq)]
 pub struct Header {
     pub source: Place,
     pub destination: Place,
@@ -36,7 +37,7 @@ fn header_at(bytes: &[u8], at: usize) -> Header
     }
 }
 
-// The header of packet i of a list.
+/// The header of packet i of a list.
 pub fn header_of(list: &[u8], i: usize) -> Header
     requires in_bounds { 2 ≤ length list.now }
     requires i_in_bounds { i < length (after_lead list.now) }
@@ -45,68 +46,63 @@ pub fn header_of(list: &[u8], i: usize) -> Header
     header_at(&list[2..], 3 * i)
 }
 
-// Is a place outside a mesh of these sides?
-fn is_outside(columns: u8, rows: u8, place: Place) -> bool
-    ensures { result ≡ outside columns rows place }
+// Is a place outside a mesh?
+fn is_outside(m: Mesh, place: Place) -> bool
+    ensures { result ≡ outside m.columns m.rows place }
 {
-    (columns <= place.column.0) | (rows <= place.row.0)
+    (m.columns <= place.column.0) | (m.rows <= place.row.0)
 }
 
-// The refusal of a header; 0 if its packet can be served.
-fn bad_header(columns: u8, rows: u8, h: Header) -> u8
-    ensures { result ≡ bad_header columns rows h }
+// Can a header's packet be served?
+fn check_header(m: Mesh, h: Header) -> Result<(), Refusal>
+    ensures { refusal_of result ≡ bad_header m.columns m.rows h }
 {
-    let off = is_outside(columns, rows, h.source) | is_outside(columns, rows, h.destination);
-    let served = (1 <= h.flits) & (h.flits <= MOST_FLITS as u16);
-    let still = h.source.is(h.destination);
+    let off = is_outside(m, h.source) | is_outside(m, h.destination);
+    let served = (1..=MOST_FLITS as u16).contains(&h.flits);
+    let still = h.source == h.destination;
     if off {
-        return BAD_NODE;
+        return Err(Refusal::BadNode);
     }
     if !served {
-        return BAD_FLITS;
+        return Err(Refusal::BadFlits);
     }
     if still {
-        return SAME_NODE;
+        return Err(Refusal::SameNode);
     }
-    0
+    Ok(())
 }
 
-// The first refusal of headers; 0 if all their packets can be served.
-pub fn bad_headers(bytes: &[u8], columns: u8, rows: u8) -> u8
-    ensures { result ≡ bad_headers columns rows (headers bytes.now) }
+/// Can the packets of all headers be served?
+pub fn check_headers(m: Mesh, bytes: &[u8]) -> Result<(), Refusal>
+    ensures { refusal_of result ≡ bad_headers m.columns m.rows (headers bytes.now) }
 {
-    let mut at = 0;
-    while at + 2 < bytes.len() {
-        let refusal = bad_header(columns, rows, header_at(bytes, at));
-        if refusal != 0 {
-            return refusal;
-        }
-        at += 3;
+    for i in 0..bytes.len() / 3 {
+        check_header(m, header_at(bytes, 3 * i))?;
     }
-    0
+    Ok(())
 }
 
 // The record of header i's packet at its source, an empty one past the last.
-fn packet_of(bytes: &[u8], columns: u8, rows: u8, i: usize) -> Record
-    requires { bad_headers columns rows (headers bytes.now) ≡ 0 }
-    ensures { result ≡ get_or (packets columns (headers bytes.now)) i none }
+fn packet_of(bytes: &[u8], m: Mesh, i: usize) -> Record
+    requires { bad_headers m.columns m.rows (headers bytes.now) ≡ 0 }
+    ensures { result ≡ get_or (packets m.columns (headers bytes.now)) i none }
 {
     if bytes.len() / 3 <= i {
-        return none();
+        return Record::default();
     }
     let h = header_at(bytes, 3 * i);
     fresh(
-        node_of(columns, h.source),
-        node_of(columns, h.destination),
+        node_of(m.columns, h.source),
+        node_of(m.columns, h.destination),
         h.flits as u8,
     )
 }
 
-// The record of packet i of a list, an empty one past the last.
-pub fn packet_at(list: &[u8], columns: u8, rows: u8, i: usize) -> Record
+/// The record of packet i of a list, an empty one past the last.
+pub fn packet_at(list: &[u8], m: Mesh, i: usize) -> Record
     requires in_bounds { 2 ≤ length list.now }
-    requires headers_served { bad_headers columns rows (after_lead list.now) ≡ 0 }
-    ensures { result ≡ get_or (packets columns (after_lead list.now)) i none }
+    requires headers_served { bad_headers m.columns m.rows (after_lead list.now) ≡ 0 }
+    ensures { result ≡ get_or (packets m.columns (after_lead list.now)) i none }
 {
-    packet_of(&list[2..], columns, rows, i)
+    packet_of(&list[2..], m, i)
 }

@@ -12,7 +12,7 @@ mod reads;
 mod writes;
 
 pub use headers::{Header, header_of, packet_at};
-pub use lists::{Lead, bad_read, lead_of, packets_of};
+pub use lists::{Lead, lead_of, packets_of, readable};
 pub use pages::{Written, put};
-pub use reads::{ListRead, mesh_read};
+pub use reads::{Contents, ListRead, mesh_read};
 pub use writes::mesh_write;

@@ -1,10 +1,12 @@
-// The calls of `traffic`, for C: each is the library's own, with its promise. `include/mesh.h` declares them.
+// The calls of `traffic`, for C: each is the library's own, with its promise. A plan comes as its three
+// numbers, and the answer goes in C's form. `include/mesh.h` declares them.
 #![tactic(auto)]
 
 ghost use Rattle.std.specs.Prelude.{◌≡◌};
 ghost use Rattle.wormhole.specs.Calls.{left};
 ghost use Rattle.traffic.specs.Calls.{read, write};
 
+use route::Plan;
 use traffic::{ListRead, Written};
 use wormhole::Record;
 
@@ -14,7 +16,7 @@ pub extern "C" fn mesh_read(list: &[u8], words: &mut [u16], records: &mut [Recor
     ensures { left result words.new records.new
         ≡ read list.now words.old records.old }
 {
-    traffic::mesh_read(list, words, records)
+    ListRead::from(traffic::mesh_read(list, words, records))
 }
 
 // `traffic::mesh_write`.
@@ -30,5 +32,10 @@ pub extern "C" fn mesh_write(
     ensures { record { answer = result; bytes = out.new }
         ≡ write columns rows rule words.now records.now out.old }
 {
-    traffic::mesh_write(columns, rows, rule, words, records, out)
+    let plan = Plan {
+        columns,
+        rows,
+        rule,
+    };
+    Written::from(traffic::mesh_write(plan, words, records, out))
 }

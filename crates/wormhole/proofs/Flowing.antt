@@ -1,14 +1,14 @@
 -- Follow, feed and eat: each return from the tests before it, and what the test of a move tells. Assumes nothing.
 use Prim.Native.Nat.{ℕ, zero, suc, ◌+◌, ◌-◌, ◌≤◌, ◌<◌}
 use mathlib.Core.Path.{◌≡◌, refl, sym, ◌∙◌}
-use mathlib.Core.Bool.{Bool, true, false, not, ◌&&◌, false≢true}
+use mathlib.Core.Bool.{Bool, true, false, ◌&&◌, false≢true}
 use mathlib.Core.List.{List, [], ◌∷◌}
 use native.Mathlib.Omega.{arith}
 use mir.Syntax.{w8}
 use mir.Val.{Fits}
 use lib.Dec.{leb, ltb, eqb}
 use lib.ListN.{get_or, set}
-use borrow.Author.Tests.{not-true, not-false, eq-eqb, ne_eqb, leb-true, ltb-true, le-leb, lt-leb, lt-ltb, le-ltb}
+use borrow.Author.Tests.{eq-eqb, ne_eqb, leb-true, ltb-true, le-leb, lt-leb, lt-ltb, le-ltb}
 use Rattle.route.specs.declared.places.Place.{Place}
 use Rattle.route.specs.declared.meshes.Mesh.{Mesh as Coded}
 use Rattle.route.specs.Numbers.{place_of, channels}
@@ -157,18 +157,18 @@ module _ (m : Coded) (n : ℕ) (w : List ℕ) (hn : n ≡ channels m.columns m.r
       arrived : b ≡ same_place (far m.columns k) (goal (meant m) r)
       arrived = rw (ep, eq, named_some (place_of m.columns r.source) (far m.columns) r.front front) at eb
 
-      pub eat_away : not b ≡ true → false ≡ may_eat (built m) s r
+      pub eat_away : b ≡ false → false ≡ may_eat (built m) s r
       unfolding may_eat
-      eat_away h = rw (named_some false there r.front front, sym arrived ∙ not-true b h) refl
+      eat_away h = rw (named_some false there r.front front, sym arrived ∙ h) refl
 
-      module _ (h : not b ≡ false) (f : ℕ) (ef : f ≡ holds_of (sections n w) k) where
+      module _ (h : b ≡ true) (f : ℕ) (ef : f ≡ holds_of (sections n w) k) where
         pub eat_empty : f ≡ 0 → false ≡ may_eat (built m) s r
         unfolding may_eat
-        eat_empty z = rw (named_some false there r.front front, sym arrived ∙ not-false b h, lt-leb 1 (holds_of s k) (omega (arith, rw hn at ef))) refl
+        eat_empty z = rw (named_some false there r.front front, sym arrived ∙ h, lt-leb 1 (holds_of s k) (omega (arith, rw hn at ef))) refl
 
         pub eat_left : (f ≡ 0 → ⊥) → ltb r.eaten r.flits ≡ may_eat (built m) s r
         unfolding may_eat
-        eat_left z = rw (named_some false there r.front front, sym arrived ∙ not-false b h, le-leb 1 (holds_of s k) (omega (arith, rw hn at ef))) refl
+        eat_left z = rw (named_some false there r.front front, sym arrived ∙ h, le-leb 1 (holds_of s k) (omega (arith, rw hn at ef))) refl
 
     module _ (may : may_eat (built m) s r ≡ true) where
       eat_tells : (1 ≤ r.front) × (1 ≤ holds_of s (r.front - 1)) × (r.eaten < r.flits)

@@ -5,18 +5,18 @@ use mathlib.Core.Bool.{Bool, true, false, not, ◌&&◌}
 use mathlib.Core.List.{List}
 use native.Mathlib.Omega.{arith}
 use lib.Dec.{T, leb, eqb}
-use borrow.Author.Tests.{not-true, not-false, leb-true}
+use borrow.Author.Tests.{leb-true}
 use Rattle.route.specs.declared.places.Place.{Place}
 use Rattle.route.specs.declared.meshes.Mesh.{Mesh as Coded}
 use Rattle.route.specs.Grid.{pick, Dir, west, east, south, north, hop}
 use Rattle.route.specs.Turns.{Arrival, local, going}
 use Rattle.route.specs.Mesh.{Mesh, Inside, exists}
-use Rattle.route.specs.Numbers.{node, place_of, channels, dir_of, arrival_of}
+use Rattle.route.specs.Numbers.{node, place_of, channels, number, dir_of}
 use Rattle.route.specs.Paths.{same_place, answer}
 use Rattle.route.specs.Route.{values, outputs}
 use Rattle.route.specs.Channels.{channel, start, way, far}
 use Rattle.route.specs.Coded.{meant}
-use Rattle.route.proofs.Promises.{start_inside, hop_inside, node_below, channel_below, channel_is}
+use Rattle.route.proofs.Promises.{start_inside, hop_inside, node_below, channel_below, channel_is, dir_of_number}
 use Rattle.wormhole.specs.declared.records.Record.{Record}
 use Rattle.wormhole.specs.Memory.{Sections, sections, owner_of, holds_of, put, link, drain, anew}
 use Rattle.wormhole.specs.Steps.{Stepped, stepped, leave, head, arrival, goal, ready, ahead, onward, may_lead, claim, start as begin, advance, lead}
@@ -25,14 +25,6 @@ use Rattle.wormhole.proofs.Every.{both}
 use Rattle.wormhole.proofs.Serving.{named_none, named_some, a_channel, Told}
 
 -- ---- where it is
--- an arrival by a direction
-by_way : (d : ℕ) → d < 4 → arrival_of d ≡ going (dir_of d)
-by_way zero h = refl
-by_way (suc zero) h = refl
-by_way (suc (suc zero)) h = refl
-by_way (suc (suc (suc zero))) h = refl
-by_way (suc (suc (suc (suc d)))) h = absurd (omega arith)
-
 module _ (m : Coded) (r : Record) where
   abbrev C : ℕ
   C = m.columns
@@ -52,26 +44,26 @@ module _ (m : Coded) (r : Record) where
     pub front_below : r.front - 1 < channels C m.rows
     front_below = front_is.0
 
-    module _ (s : Place) (d : ℕ) (es : s ≡ start C (r.front - 1)) (ed : d ≡ (r.front - 1) % 4) where
+    module _ (s : Place) (d : Dir) (es : s ≡ start C (r.front - 1)) (ed : d ≡ way (r.front - 1)) where
       pub front_start : Inside (meant m) s
       front_start = rw es (start_inside (meant m) (r.front - 1) front_is.0)
 
-      pub front_exists : exists (meant m) s (dir_of d) ≡ true
-      front_exists = go (exists (meant m) s (dir_of d)) (rw (es, ed) front_is.1)
+      pub front_exists : exists (meant m) s d ≡ true
+      front_exists = go (exists (meant m) s d) (rw (es, ed) front_is.1)
         where
           go : (b : Bool) → T b → b ≡ true
           go true h = refl
           go false h = absurd h
 
-      module _ (p : Place) (ep : p ≡ hop (dir_of d) s) where
+      module _ (p : Place) (ep : p ≡ hop d s) where
         pub front_place : p ≡ head (meant m) r
         front_place = ep ∙ rw (es, ed) (sym (named_some (place_of C r.source) (far C) r.front e))
 
         pub front_end : Inside (meant m) p
-        front_end = rw ep (hop_inside (meant m) s (dir_of d) front_start (subst T (sym front_exists) tt))
+        front_end = rw ep (hop_inside (meant m) s d front_start (subst T (sym front_exists) tt))
 
-      pub front_arrival : d < 4 → arrival_of d ≡ arrival r
-      front_arrival low = by_way d low ∙ rw ed (sym (named_some local (λ k. going (way k)) r.front e))
+      pub front_arrival : going d ≡ arrival r
+      front_arrival = rw ed (sym (named_some local (λ k. going (way k)) r.front e))
 
 -- ---- is a flit there to move?
 module _ (s : Sections) (r : Record) where
@@ -145,21 +137,21 @@ in_outputs m n a t d low = go (same_place n t) d low
     go true (suc (suc (suc zero))) l = refl
     go true (suc (suc (suc (suc d)))) l = absurd (omega arith)
 
-pub open_way : (m : Mesh) (r : Record) (o d a : ℕ) (p q : Place) → p ≡ head m r → arrival_of a ≡ arrival r → q ≡ goal m r → o ≡ outputs m p (arrival_of a) q → d < 4
+pub open_way : (m : Mesh) (r : Record) (o d : ℕ) (a : Arrival) (p q : Place) → p ≡ head m r → a ≡ arrival r → q ≡ goal m r → o ≡ outputs m p a q → d < 4
     → eqb (o / 2 ^ d % 2) 1 ≡ onward m r d
 open_way m r o d a p q ep ea eq eo low = rw (eo, ep, ea, eq) (in_outputs m (head m r) (arrival r) (goal m r) d low)
 
 -- ---- the channel ahead
-module _ (m : Coded) (r : Record) (d : ℕ) (p : Place) (i : Inside (meant m) p) where
+module _ (m : Coded) (r : Record) (d : Dir) (p : Place) (i : Inside (meant m) p) where
   pub node_low : Told m r → node m.columns p < 16384
   node_low t = omega (arith, node_below (meant m) p i, t.few)
 
-  module _ (t : ℕ) (et : t ≡ channel m.columns p (dir_of d)) where
-    pub ahead_is : p ≡ head (meant m) r → t ≡ ahead (meant m) r d
-    ahead_is e = rw e at et
+  module _ (t : ℕ) (et : t ≡ channel m.columns p d) where
+    pub ahead_is : p ≡ head (meant m) r → t ≡ ahead (meant m) r (number d)
+    ahead_is e = rw e at et ∙ rw (dir_of_number d) refl
 
     pub ahead_low : t < channels m.columns m.rows
-    ahead_low = rw et (channel_below (meant m) p (dir_of d) i)
+    ahead_low = rw et (channel_below (meant m) p d i)
 
 -- ---- may it take that channel?
 module _ (m : Coded) (r : Record) (d n : ℕ) (w : List ℕ) (hn : n ≡ channels m.columns m.rows) where
@@ -167,21 +159,21 @@ module _ (m : Coded) (r : Record) (d n : ℕ) (w : List ℕ) (hn : n ≡ channel
   s = laid m w
 
   module _ {a : Bool} (ea : a ≡ ready (sections n w) r) where
-    pub lead_unready : not a ≡ true → false ≡ may_lead (built m) s r d
+    pub lead_unready : a ≡ false → false ≡ may_lead (built m) s r d
     unfolding may_lead
-    lead_unready h = rw (rw hn at (sym ea ∙ not-true a h)) refl
+    lead_unready h = rw (rw hn at (sym ea ∙ h)) refl
 
-    module _ (ha : not a ≡ false) {b : Bool} (eb : b ≡ onward (meant m) r d) where
+    module _ (ha : a ≡ true) {b : Bool} (eb : b ≡ onward (meant m) r d) where
       is_ready : ready s r ≡ true
-      is_ready = rw hn at (sym ea ∙ not-false a ha)
+      is_ready = rw hn at (sym ea ∙ ha)
 
-      pub lead_shut : not b ≡ true → false ≡ may_lead (built m) s r d
+      pub lead_shut : b ≡ false → false ≡ may_lead (built m) s r d
       unfolding may_lead
-      lead_shut h = rw (is_ready, sym eb ∙ not-true b h) refl
+      lead_shut h = rw (is_ready, sym eb ∙ h) refl
 
-      pub lead_free : {t o : ℕ} → not b ≡ false → t ≡ ahead (meant m) r d → o ≡ owner_of (sections n w) t → eqb o 0 ≡ may_lead (built m) s r d
+      pub lead_free : {t o : ℕ} → b ≡ true → t ≡ ahead (meant m) r d → o ≡ owner_of (sections n w) t → eqb o 0 ≡ may_lead (built m) s r d
       unfolding may_lead
-      lead_free h et eo = rw (is_ready, eo, et, hn, sym eb ∙ not-false b h) refl
+      lead_free h et eo = rw (is_ready, eo, et, hn, sym eb ∙ h) refl
 
 -- ---- it takes it
 pub claiming : (s : Sections) {s' : Sections} (t i : ℕ) {o h x : ℕ} → s' ≡ put s t o h x → o ≡ i + 1 → h ≡ 1 → x ≡ 0 → s' ≡ claim s t i

@@ -1,13 +1,10 @@
 -- The proofs that belong to no one function, each after those that it rests on. Draining is of all calls together.
-pub mod Data
 pub mod Every
-pub mod AnyRule
 pub mod Whole
 pub mod Sections
 mod Emptied
 mod InRange
 pub mod Refusing
-mod Seeing
 mod Serving
 mod Leading
 mod Flowing

@@ -1,8 +1,9 @@
 -- The calls: their refusals in order, and the memory that they leave. Assumes nothing.
-use Rattle.std.specs.Prelude.{ℕ, suc, ◌+◌, ◌*◌, Bool, not, ◌&&◌, ◌||◌, List, [], ◌∷◌, leb, ltb, eqb, length, set, get_or, replicate}
+use Rattle.std.specs.Prelude.{ℕ, suc, ◌+◌, ◌*◌, Bool, not, ◌&&◌, ◌||◌, List, [], ◌∷◌, leb, ltb, eqb, length, set, get_or, replicate, Result, Ok, Err}
 use Rattle.route.specs.Grid.{pick}
 use Rattle.route.specs.Numbers.{channels}
-use Rattle.route.specs.Served.{unless, bad_mesh}
+use Rattle.route.specs.declared.refusals.Refusal.{Refusal}
+use Rattle.route.specs.Served.{unless, bad_mesh, code}
 use Rattle.wormhole.specs.declared.offers.Offered.{Offered}
 use Rattle.wormhole.specs.declared.records.Record.{Record}
 use Rattle.wormhole.specs.Memory.{Net, net, Sections, sections, joined, none, fresh}
@@ -22,6 +23,11 @@ left a w rs = record { answer = a; words = w; records = rs }
 -- the answer of an offer: a refusal and a record
 abbrev pub offered : ℕ → ℕ → Offered
 offered k i = record { refusal = k; «record» = i }
+
+-- the answer of an offer as a library has it: a record, or a refusal, which names record 255
+abbrev pub offered_of : Result ℕ Refusal → Offered
+offered_of (Ok i) = offered 0 i
+offered_of (Err e) = offered (code e) 255
 
 -- how many words a mesh of C columns and R rows needs
 abbrev pub needed : ℕ → ℕ → ℕ

@@ -1,20 +1,17 @@
 -- What the code's own values stand for: cited by the contracts of its inner functions. No call's promise rests on it. Assumes nothing.
-use Rattle.std.specs.Prelude.{ℕ, zero, suc, ◌≡◌, Bool, true, ◌&&◌, List, ltb, eqb, length, set, get_or, replicate}
+use Rattle.std.specs.Prelude.{ℕ, ◌≡◌, Bool, true, List, length}
 use Rattle.route.specs.declared.meshes.Mesh.{Mesh as Coded}
-use Rattle.route.specs.Grid.{pick}
 use Rattle.route.specs.Turns.{xy}
 use Rattle.route.specs.Mesh.{Mesh, ruled}
-use Rattle.route.specs.Numbers.{channels}
-use Rattle.route.specs.Served.{unless}
+use Rattle.route.specs.Numbers.{channels, number, facing}
 use Rattle.route.specs.Coded.{meant, Roomy}
-use Rattle.wormhole.specs.declared.offers.Placed.{Placed}
 use Rattle.wormhole.specs.declared.records.Record.{Record}
-use Rattle.wormhole.specs.declared.resets.Wiped.{Wiped}
-use Rattle.wormhole.specs.declared.surveys.Found.{Found}
-use Rattle.wormhole.specs.Memory.{Net, depth, net, Sections, sections, joined, none, fresh}
-use Rattle.wormhole.specs.Range.{every, names, words_fit, record_fits}
-use Rattle.wormhole.specs.Steps.{act}
-use Rattle.wormhole.specs.Calls.{needed, bad_offer, offered, bad_move, allowed}
+use Rattle.wormhole.specs.declared.steps.Step.{Step}
+use Rattle.wormhole.specs.declared.steps.Step.TheVariants.{Lead, Follow, Feed, Eat}
+use Rattle.wormhole.specs.Memory.{Net, depth, Sections, sections}
+use Rattle.wormhole.specs.Range.{every, names, record_fits}
+use Rattle.wormhole.specs.Steps.{Stepped, known, may, act}
+use Rattle.wormhole.specs.Calls.{needed, allowed}
 
 -- a mesh of these sides, for questions that no rule bears on
 abbrev pub sides : ℕ → ℕ → Mesh
@@ -32,39 +29,6 @@ built m = buffered (meant m)
 abbrev pub laid : Coded → List ℕ → Sections
 laid m w = sections (channels m.columns m.rows) w
 
--- what is known of the records once one more is seen
-abbrev pub seen : ℕ → ℕ → Found → ℕ → Record → Found
-seen C R s i r =
-    record {
-      fit = s.fit && record_fits (sides C R) r;
-      empty = pick (ltb s.empty i) s.empty (pick (eqb r.live 0) i (suc i));
-    }
-
--- what is known of the first n records
-unfoldable pub surveyed : ℕ → ℕ → List Record → ℕ → Found
-surveyed C R rs zero = record { fit = true; empty = 0 }
-surveyed C R rs (suc i) = seen C R (surveyed C R rs i) i (get_or rs i none)
-
--- the first n records are empty
-unfoldable pub cleared : List Record → ℕ → List Record
-cleared rs zero = rs
-cleared rs (suc i) = set (cleared rs i) i none
-
--- a reset of the words: its refusal, and how many records are to be cleared then
-abbrev pub wiped : ℕ → ℕ → Wiped
-wiped k records = record { refusal = k; count = unless (λ _. 0) k records }
-
--- the words after it
-abbrev pub wiped_words : ℕ → List ℕ → List ℕ
-wiped_words k w = unless (λ _. w) k (replicate (length w) 0)
-
--- an offer to a memory of which this is known: its answer, the record that it goes to and what is stored there; past the end with a refusal
-unfoldable pub placed : ℕ → ℕ → ℕ → List ℕ → Found → ℕ → ℕ → ℕ → ℕ → Placed
-placed C R rule w s records a b f =
-    unless (λ k. record { answer = offered k 255; at = records; packet = none })
-    (bad_offer C R rule (length w) records (words_fit (net C R rule) records (sections (channels C R) w) && s.fit) s.empty a b f)
-    (record { answer = offered 0 s.empty; at = s.empty; packet = fresh a b f })
-
 -- a record in range, in a mesh with room
 pub record Fitting (m : Coded) (r : Record) : Type 0 where
   pub roomy : Roomy m
@@ -80,21 +44,47 @@ pub record Memory (m : Coded) (w : List ℕ) : Type 0 where
   pub long : length w ≡ needed m.columns m.rows
   pub nexts : every (names (meant m)) (laid m w).next ≡ true
 
--- a move on the words and the one record that it names
-pub record Tried : Type 0 where
-  pub refusal : ℕ
-  pub words : List ℕ
-  pub packet : Record
+-- ---- a move as the code has it, by the numbers that the rules know it by
+-- its kind
+abbrev pub kind_of : Step → ℕ
+kind_of (Lead d) = 0
+kind_of (Follow k) = 1
+kind_of Feed = 2
+kind_of Eat = 3
 
--- this refusal, these words and this record
-abbrev pub tried : ℕ → List ℕ → Record → Tried
-tried c w r = record { refusal = c; words = w; packet = r }
+-- the channel that it names
+abbrev pub channel_of : Step → ℕ
+channel_of (Lead d) = 0
+channel_of (Follow k) = k
+channel_of Feed = 0
+channel_of Eat = 0
 
--- in a memory of so many records, of which it is known whether all are in range
-unfoldable pub try : ℕ → ℕ → ℕ → List ℕ → Bool → ℕ → Record → ℕ → ℕ → ℕ → ℕ → Tried
-try C R rule w fit records r i kind k d =
-    let N = net C R rule in
-    let s = sections (channels C R) w in
-    let after = act N s i r kind k d in
-    unless (λ c. tried c w r) (bad_move C R rule (length w) records (words_fit N records s && fit) i kind k d (allowed N s i r kind k d))
-    (tried 0 (joined after.words) after.packet)
+-- the direction that it names
+abbrev pub way_of : Step → ℕ
+way_of (Lead d) = number (facing d)
+way_of (Follow k) = 0
+way_of Feed = 0
+way_of Eat = 0
+
+-- it is the move of these numbers; what its kind does not name may be anything
+abbrev pub Means : Step → ℕ → ℕ → ℕ → Type 0
+Means (Lead d) kind k e = (kind ≡ 0) × (number (facing d) ≡ e)
+Means (Follow j) kind k e = (kind ≡ 1) × (j ≡ k)
+Means Feed kind k e = kind ≡ 2
+Means Eat kind k e = kind ≡ 3
+
+-- what it names is there
+abbrev pub takes : Mesh → Step → Bool
+takes m v = known m (kind_of v) (channel_of v) (way_of v)
+
+-- packet i, whose record is r, may make it
+abbrev pub step_may : Net → Sections → ℕ → Record → Step → Bool
+step_may N s i r v = may N s i r (kind_of v) (channel_of v) (way_of v)
+
+-- and its record is live
+abbrev pub step_allowed : Net → Sections → ℕ → Record → Step → Bool
+step_allowed N s i r v = allowed N s i r (kind_of v) (channel_of v) (way_of v)
+
+-- what it leaves
+abbrev pub step_act : Net → Sections → ℕ → Record → Step → Stepped
+step_act N s i r v = act N s i r (kind_of v) (channel_of v) (way_of v)

@@ -4,23 +4,22 @@ ghost use Rattle.wormhole.specs.Steps.{stepped, may_eat, finished, eat};
 ghost use Rattle.wormhole.specs.Coded.{Packet, Memory, built, laid};
 
 use crate::leads::header_of;
-use crate::ranges::channels_of;
-use crate::records::{Record, none};
+use crate::records::Record;
 use crate::releases::leave;
 use crate::words::{drain, holds_of};
 use route::{Mesh, place_of};
 
-// May the destination take a flit from the packet's front?
+/// May the destination take a flit from the packet's front?
 pub fn may_eat(words: &[u16], m: Mesh, r: Record) -> bool
     requires packet { Packet m r }
     requires memory { Memory m words.now }
     ensures { result ≡ may_eat (built m) (laid m words.now) r }
 {
-    let n = channels_of(m.columns, m.rows);
+    let n = m.channels();
     if r.front == 0 {
         return false;
     }
-    if !header_of(m, r).place.is(place_of(m.columns, r.destination)) {
+    if header_of(m, r).place != place_of(m.columns, r.destination) {
         return false;
     }
     if holds_of(words, n, r.front - 1) == 0 {
@@ -35,12 +34,12 @@ fn finish(r: Record, released: Record) -> Record
     ensures { result ≡ finished r released }
 {
     if r.eaten == r.flits {
-        return none();
+        return Record::default();
     }
     released
 }
 
-// The destination takes a flit from the packet's front. Returns the packet's record.
+/// The destination takes a flit from the packet's front. Returns the packet's record.
 pub fn eat(words: &mut [u16], m: Mesh, r: Record) -> Record
     requires packet { Packet m r }
     requires memory { Memory m words.old }
@@ -48,11 +47,13 @@ pub fn eat(words: &mut [u16], m: Mesh, r: Record) -> Record
     ensures { stepped (laid m words.new) result
         ≡ eat (laid m words.old) r }
 {
-    let n = channels_of(m.columns, m.rows);
+    let n = m.channels();
     let k = r.front - 1;
     drain(words, n, k);
-    let mut bitten = r;
-    bitten.eaten = r.eaten + 1;
+    let bitten = Record {
+        eaten: r.eaten + 1,
+        ..r
+    };
     let released = leave(words, n, bitten, k, r.front);
     finish(bitten, released)
 }

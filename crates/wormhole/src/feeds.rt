@@ -4,25 +4,24 @@ ghost use Rattle.wormhole.specs.Steps.{stepped, may_feed, feed};
 ghost use Rattle.wormhole.specs.Coded.{Packet, Memory, built, laid};
 
 use crate::follows::has_room;
-use crate::ranges::channels_of;
 use crate::records::Record;
 use crate::words::fill;
 use route::Mesh;
 
-// May a flit enter the packet's rear?
+/// May a flit enter the packet's rear?
 pub fn may_feed(words: &[u16], m: Mesh, r: Record) -> bool
     requires packet { Packet m r }
     requires memory { Memory m words.now }
     ensures { result ≡ may_feed (built m) (laid m words.now) r }
 {
-    let n = channels_of(m.columns, m.rows);
+    let n = m.channels();
     if r.waiting == 0 {
         return false;
     }
     has_room(words, n, r.rear)
 }
 
-// A flit enters the packet's rear. Returns the packet's record.
+/// A flit enters the packet's rear. Returns the packet's record.
 pub fn feed(words: &mut [u16], m: Mesh, r: Record) -> Record
     requires packet { Packet m r }
     requires memory { Memory m words.old }
@@ -30,9 +29,10 @@ pub fn feed(words: &mut [u16], m: Mesh, r: Record) -> Record
     ensures { stepped (laid m words.new) result
         ≡ feed (laid m words.old) r }
 {
-    let n = channels_of(m.columns, m.rows);
+    let n = m.channels();
     fill(words, n, r.rear - 1);
-    let mut s = r;
-    s.waiting = r.waiting - 1;
-    s
+    Record {
+        waiting: r.waiting - 1,
+        ..r
+    }
 }

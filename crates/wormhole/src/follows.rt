@@ -6,13 +6,13 @@ ghost use Rattle.wormhole.specs.Memory.{depth, sections};
 ghost use Rattle.wormhole.specs.Steps.{stepped, room, can_follow, may_follow, follow};
 ghost use Rattle.wormhole.specs.Coded.{Memory, built, laid};
 
-use crate::ranges::{DEPTH, channels_of};
+use crate::ranges::DEPTH;
 use crate::records::Record;
 use crate::releases::leave;
 use crate::words::{drain, fill, holds_of, next_of, owner_of};
 use route::Mesh;
 
-// Does a word name a channel that has room for a flit?
+/// Does a word name a channel that has room for a flit?
 pub fn has_room(words: &[u16], n: usize, word: u16) -> bool
     requires words_len { length words.now ≡ n + n + n }
     requires word_le_n { word ≤ n }
@@ -24,13 +24,13 @@ pub fn has_room(words: &[u16], n: usize, word: u16) -> bool
     holds_of(words, n, word - 1) < DEPTH
 }
 
-// May a flit of packet i go from channel k to the packet's next?
+/// May a flit of packet i go from channel k to the packet's next?
 pub fn may_follow(words: &[u16], m: Mesh, i: u8, k: u16) -> bool
     requires memory { Memory m words.now }
     requires k_bound { k < channels m.columns m.rows }
     ensures { result ≡ may_follow (built m) (laid m words.now) i k }
 {
-    let n = channels_of(m.columns, m.rows);
+    let n = m.channels();
     if owner_of(words, n, k) != i as u16 + 1 {
         return false;
     }
@@ -40,7 +40,7 @@ pub fn may_follow(words: &[u16], m: Mesh, i: u8, k: u16) -> bool
     has_room(words, n, next_of(words, n, k))
 }
 
-// A flit goes from channel k to the packet's next. Returns the packet's record.
+/// A flit goes from channel k to the packet's next. Returns the packet's record.
 pub fn follow(words: &mut [u16], m: Mesh, r: Record, k: u16) -> Record
     requires roomy { Roomy m }
     requires memory { Memory m words.old }
@@ -49,7 +49,7 @@ pub fn follow(words: &mut [u16], m: Mesh, r: Record, k: u16) -> Record
     ensures { stepped (laid m words.new) result
         ≡ follow (laid m words.old) r k }
 {
-    let n = channels_of(m.columns, m.rows);
+    let n = m.channels();
     let next = next_of(words, n, k);
     drain(words, n, k);
     fill(words, n, next - 1);

@@ -1,44 +1,42 @@
 // The header takes a further channel.
 ghost use Rattle.std.specs.Prelude.{◌≡◌, true, ◌+◌, ◌<◌, ◌≤◌, length};
 ghost use Rattle.route.specs.Mesh.{Inside};
-ghost use Rattle.route.specs.Numbers.{arrival_of, channels};
+ghost use Rattle.route.specs.Numbers.{channels, number, facing, arriving};
 ghost use Rattle.route.specs.Channels.{channel};
 ghost use Rattle.route.specs.Coded.{meant};
 ghost use Rattle.wormhole.specs.Memory.{sections, holds_of};
 ghost use Rattle.wormhole.specs.Steps.{stepped, head, arrival, ready, ahead, onward, may_lead, claim, start, advance, lead};
 ghost use Rattle.wormhole.specs.Coded.{Packet, Memory, built, laid};
 
-use crate::ranges::channels_of;
 use crate::records::Record;
 use crate::releases::leave;
 use crate::words::{drain, holds_of, owner_of, put, set_next};
-use route::{Channel, LOCAL, Mesh, Place, channel_of, outputs_at, place_of};
+use route::{Arrival, Channel, Direction, Mesh, Place, channel_of, outputs_at, place_of};
 
-// Where a packet's header is, and how it came there.
+/// Where a packet's header is, and how it came there.
 #[derive(Clone, Copy)]
 pub struct Header {
     pub place: Place,
-    pub arrival: u8,
+    pub arrival: Arrival,
 }
 
-// The header of a packet: at its source, or at the end of its front channel.
+/// The header of a packet: at its source, or at the end of its front channel.
 pub fn header_of(m: Mesh, r: Record) -> Header
     requires { Packet m r }
     ensures place { result.place ≡ head (meant m) r }
-    ensures arrival { arrival_of result.arrival ≡ arrival r }
-    ensures arrival_bound { result.arrival < 5 }
+    ensures arrival { arriving result.arrival ≡ arrival r }
     ensures inside { Inside (meant m) result.place }
 {
     if r.front == 0 {
         return Header {
             place: place_of(m.columns, r.source),
-            arrival: LOCAL,
+            arrival: Arrival::Local,
         };
     }
     let channel = channel_of(m.columns, r.front - 1);
     Header {
         place: m.hop(channel.start, channel.way),
-        arrival: channel.way,
+        arrival: Arrival::Going(channel.way),
     }
 }
 
@@ -55,10 +53,9 @@ fn is_ready(words: &[u16], n: usize, r: Record) -> bool
 }
 
 // Does the rule let the header go on by a direction, on a shortest path?
-fn is_open(m: Mesh, r: Record, direction: u8) -> bool
-    requires packet { Packet m r }
-    requires direction_bound { direction < 4 }
-    ensures { result ≡ onward (meant m) r direction }
+fn is_open(m: Mesh, r: Record, direction: Direction) -> bool
+    requires { Packet m r }
+    ensures { result ≡ onward (meant m) r (number (facing direction)) }
 {
     let header = header_of(m, r);
     let outputs = outputs_at(
@@ -67,14 +64,13 @@ fn is_open(m: Mesh, r: Record, direction: u8) -> bool
         header.arrival,
         place_of(m.columns, r.destination),
     );
-    (outputs >> direction) % 2 == 1
+    (outputs >> direction.number()) % 2 == 1
 }
 
 // The channel that the header would take.
-fn ahead(m: Mesh, r: Record, direction: u8) -> u16
-    requires packet { Packet m r }
-    requires direction_bound { direction < 4 }
-    ensures value { result ≡ ahead (meant m) r direction }
+fn ahead(m: Mesh, r: Record, direction: Direction) -> u16
+    requires { Packet m r }
+    ensures value { result ≡ ahead (meant m) r (number (facing direction)) }
     ensures bound { result < channels m.columns m.rows }
 {
     let start = header_of(m, r).place;
@@ -85,14 +81,13 @@ fn ahead(m: Mesh, r: Record, direction: u8) -> u16
     channel.number(m.columns)
 }
 
-// May the header take the channel in a direction?
-pub fn may_lead(words: &[u16], m: Mesh, r: Record, direction: u8) -> bool
+/// May the header take the channel in a direction?
+pub fn may_lead(words: &[u16], m: Mesh, r: Record, direction: Direction) -> bool
     requires packet { Packet m r }
     requires memory { Memory m words.now }
-    requires direction_bound { direction < 4 }
-    ensures { result ≡ may_lead (built m) (laid m words.now) r direction }
+    ensures { result ≡ may_lead (built m) (laid m words.now) r (number (facing direction)) }
 {
-    let n = channels_of(m.columns, m.rows);
+    let n = m.channels();
     if !is_ready(words, n, r) {
         return false;
     }
@@ -120,11 +115,12 @@ fn start(words: &mut [u16], n: usize, i: u8, r: Record, t: u16) -> Record
     ensures { stepped (sections n words.new) result ≡ start (sections n words.old) i r t }
 {
     claim(words, n, t, i);
-    let mut s = r;
-    s.waiting = r.waiting - 1;
-    s.rear = t + 1;
-    s.front = t + 1;
-    s
+    Record {
+        waiting: r.waiting - 1,
+        rear: t + 1,
+        front: t + 1,
+        ..r
+    }
 }
 
 // The header goes from channel k to channel t, for packet i.
@@ -140,21 +136,19 @@ fn advance(words: &mut [u16], n: usize, i: u8, r: Record, t: u16, k: u16) -> Rec
     drain(words, n, k);
     set_next(words, n, k, t + 1);
     claim(words, n, t, i);
-    let mut s = r;
-    s.front = t + 1;
+    let s = Record { front: t + 1, ..r };
     leave(words, n, s, k, k + 1)
 }
 
-// The header takes the channel in a direction, for packet i. Returns the packet's record.
-pub fn lead(words: &mut [u16], m: Mesh, i: u8, r: Record, direction: u8) -> Record
+/// The header takes the channel in a direction, for packet i. Returns the packet's record.
+pub fn lead(words: &mut [u16], m: Mesh, i: u8, r: Record, direction: Direction) -> Record
     requires packet { Packet m r }
     requires memory { Memory m words.old }
-    requires direction_bound { direction < 4 }
-    requires may { may_lead (built m) (laid m words.old) r direction ≡ true }
+    requires may { may_lead (built m) (laid m words.old) r (number (facing direction)) ≡ true }
     ensures { stepped (laid m words.new) result
-        ≡ lead (built m) (laid m words.old) i r direction }
+        ≡ lead (built m) (laid m words.old) i r (number (facing direction)) }
 {
-    let n = channels_of(m.columns, m.rows);
+    let n = m.channels();
     let t = ahead(m, r, direction);
     if r.front == 0 {
         return start(words, n, i, r, t);

@@ -12,16 +12,12 @@ fn shorten(r: Record, k: u16, front: u16, next: u16) -> Record
     requires { k < 65535 }
     ensures { result ≡ shortened r k front next }
 {
-    let mut s = r;
-    s.rear = next;
-    if front != k + 1 {
-        return s;
+    let is_last = (front == k + 1) & (next == 0);
+    Record {
+        rear: next,
+        front: if is_last { 0 } else { r.front },
+        ..r
     }
-    if next != 0 {
-        return s;
-    }
-    s.front = 0;
-    s
 }
 
 // Gives up channel k of a packet.

@@ -1,51 +1,53 @@
-// What every call looks at first: the mesh, the sizes of the memory, and whether it is in range.
-ghost use Rattle.std.specs.Prelude.{◌≡◌, ◌&&◌, length};
-ghost use Rattle.route.specs.Numbers.{channels};
-ghost use Rattle.wormhole.specs.Memory.{net, sections};
-ghost use Rattle.wormhole.specs.Range.{words_fit};
-ghost use Rattle.wormhole.specs.Calls.{bad_size, bad_memory};
+// What every call looks at first: the plan, the sizes of the memory, and whether it is in range.
+ghost use Rattle.std.specs.Prelude.{◌≡◌, ◌≤◌, IfOk, length};
+ghost use Rattle.route.specs.Mesh.{ruled};
+ghost use Rattle.route.specs.Numbers.{rule_of};
+ghost use Rattle.route.specs.Served.{refusal_of};
+ghost use Rattle.route.specs.Coded.{meant};
+ghost use Rattle.wormhole.specs.Calls.{needed, bad_size, bad_memory, fits};
 
-use crate::ranges::{channels_of, words_fit};
-use route::{BAD_MEMORY, BAD_SIZE, bad_mesh};
+use crate::ranges::{records_fit, words_fit};
+use crate::records::Record;
+use route::{Mesh, Plan, Refusal};
 
 // The greatest number of records.
 const MOST_RECORDS: usize = 64;
 
-// The refusal of a mesh and of memory of so many words and records; 0 if it is served.
-pub fn bad_size(columns: u8, rows: u8, rule: u8, words: usize, records: usize) -> u8
-    ensures { result ≡ bad_size columns rows rule words records }
+/// How many words a mesh of these sides needs: three for each number of a channel.
+pub fn words_needed(columns: u8, rows: u8) -> usize
+    ensures value { result ≡ needed columns rows }
+    ensures bound { result ≤ 780300 }
 {
-    let refusal = bad_mesh(columns, rows, rule);
-    if refusal != 0 {
-        return refusal;
-    }
-    let n = channels_of(columns, rows);
-    if words != n + n + n {
-        return BAD_SIZE;
-    }
-    if records < 1 {
-        return BAD_SIZE;
-    }
-    if MOST_RECORDS < records {
-        return BAD_SIZE;
-    }
-    0
+    12 * ((columns as usize) * (rows as usize))
 }
 
-// The refusal of memory, of which it is known whether its records fit; 0 if it is served.
-pub fn bad_memory(words: &[u16], columns: u8, rows: u8, rule: u8, fit: bool, records: usize) -> u8
-    ensures { result ≡ bad_memory columns rows rule (length words.now) records
-        (words_fit (net columns rows rule) records (sections (channels columns rows) words.now) && fit) }
+/// The mesh of a plan, where memory of so many words and records is lent for it.
+pub fn sized(plan: Plan, words: usize, records: usize) -> Result<Mesh, Refusal>
+    ensures refusal { refusal_of result ≡ bad_size plan.columns plan.rows plan.rule words records }
+    ensures mesh { IfOk result (λ m. meant m ≡ ruled (rule_of plan.rule) plan.columns plan.rows 0) }
 {
-    let refusal = bad_size(columns, rows, rule, words.len(), records);
-    if refusal != 0 {
-        return refusal;
+    let m = plan.mesh()?;
+    if words != words_needed(plan.columns, plan.rows) {
+        return Err(Refusal::BadSize);
     }
-    if !fit {
-        return BAD_MEMORY;
+    if !(1..=MOST_RECORDS).contains(&records) {
+        return Err(Refusal::BadSize);
     }
-    if !words_fit(words, columns, rows, records as u16) {
-        return BAD_MEMORY;
+    Ok(m)
+}
+
+/// The mesh of a plan, where this memory is lent for it and is in range.
+pub fn served(plan: Plan, words: &[u16], records: &[Record]) -> Result<Mesh, Refusal>
+    ensures refusal { refusal_of result ≡ bad_memory plan.columns plan.rows plan.rule (length words.now) (length records.now)
+        (fits plan.columns plan.rows plan.rule words.now records.now) }
+    ensures mesh { IfOk result (λ m. meant m ≡ ruled (rule_of plan.rule) plan.columns plan.rows 0) }
+{
+    let m = sized(plan, words.len(), records.len())?;
+    if !words_fit(words, m, records.len() as u16) {
+        return Err(Refusal::BadMemory);
     }
-    0
+    if !records_fit(m, records) {
+        return Err(Refusal::BadMemory);
+    }
+    Ok(m)
 }

@@ -1,107 +1,83 @@
 // A move by its kind: may it be made, and what it does.
-ghost use Rattle.std.specs.Prelude.{◌≡◌, true, ◌&&◌, ltb};
+ghost use Rattle.std.specs.Prelude.{◌≡◌, true, IfSome, is_some};
 ghost use Rattle.route.specs.Coded.{meant};
-ghost use Rattle.wormhole.specs.Steps.{stepped, known, may, act};
-ghost use Rattle.wormhole.specs.Calls.{allowed};
-ghost use Rattle.wormhole.specs.Coded.{sides, Fitting, Packet, Memory, built, laid};
+ghost use Rattle.wormhole.specs.Steps.{stepped, known};
+ghost use Rattle.wormhole.specs.Coded.{Fitting, Packet, Memory, built, laid, Means, takes, step_allowed, step_may, step_act};
 
 use crate::eats::{eat, may_eat};
 use crate::feeds::{feed, may_feed};
 use crate::follows::{follow, may_follow};
 use crate::leads::{lead, may_lead};
-use crate::ranges::is_channel;
 use crate::records::Record;
-use route::Mesh;
+use route::{Direction, Mesh, is_channel};
 
-// The kinds of moves.
-pub const LEAD: u8 = 0;
-
-pub const FOLLOW: u8 = 1;
-
-pub const FEED: u8 = 2;
-
-pub const EAT: u8 = 3;
-
-// Are there such a record and kind, and what the kind names: a direction for a lead, a channel for
-// a follow?
-pub fn is_known(
-    columns: u8,
-    rows: u8,
-    count: usize,
-    i: u8,
-    kind: u8,
-    channel: u16,
-    direction: u8,
-) -> bool
-    ensures { result ≡ ltb i count && known (sides columns rows) kind channel direction }
-{
-    if count <= i as usize {
-        return false;
-    }
-    if kind == LEAD {
-        return direction < 4;
-    }
-    if kind == FOLLOW {
-        return is_channel(columns, rows, channel);
-    }
-    kind <= EAT
+/// A move of one flit, with what its kind names: a direction for a lead, a channel for a follow.
+#[derive(Clone, Copy, Debug, PartialEq, Eq)]
+pub enum Step {
+    Lead(Direction),
+    Follow(u16),
+    Feed,
+    Eat,
 }
 
-// May packet i, whose record is r, make a move? Not if the record is empty.
-pub fn may_move(
-    words: &[u16],
-    m: Mesh,
-    i: u8,
-    r: Record,
-    kind: u8,
-    channel: u16,
-    direction: u8,
-) -> bool
+impl Step {
+    /// The move of these numbers, if there is such a kind and what it names exists. What a kind does
+    /// not name may be anything.
+    pub fn of(m: Mesh, kind: u8, channel: u16, direction: u8) -> Option<Step>
+        ensures known { is_some result ≡ known (meant m) kind channel direction }
+        ensures step { IfSome result (λ s. Means s kind channel direction) }
+    {
+        match kind {
+            0 => Direction::try_from(direction).ok().map(Step::Lead),
+            1 => is_channel(m, channel).then_some(Step::Follow(channel)),
+            2 => Some(Step::Feed),
+            3 => Some(Step::Eat),
+            _ => None,
+        }
+    }
+
+    /// Is what it names there? A number of a channel may be none's.
+    pub fn is_there(self, m: Mesh) -> bool
+        ensures { result ≡ takes (meant m) self }
+    {
+        match self {
+            Step::Follow(channel) => is_channel(m, channel),
+            Step::Lead(_) | Step::Feed | Step::Eat => true,
+        }
+    }
+}
+
+/// May packet i, whose record is r, make a move? Not if the record is empty.
+pub fn may_move(words: &[u16], m: Mesh, i: u8, r: Record, step: Step) -> bool
     requires fitting { Fitting m r }
     requires memory { Memory m words.now }
-    requires known { known (meant m) kind channel direction ≡ true }
-    ensures { result ≡ allowed (built m) (laid m words.now) i r kind channel direction }
+    requires takes { takes (meant m) step ≡ true }
+    ensures { result ≡ step_allowed (built m) (laid m words.now) i r step }
 {
     if r.live != 1 {
         return false;
     }
-    if kind == LEAD {
-        return may_lead(words, m, r, direction);
+    match step {
+        Step::Lead(direction) => may_lead(words, m, r, direction),
+        Step::Follow(channel) => may_follow(words, m, i, channel),
+        Step::Feed => may_feed(words, m, r),
+        Step::Eat => may_eat(words, m, r),
     }
-    if kind == FOLLOW {
-        return may_follow(words, m, i, channel);
-    }
-    if kind == FEED {
-        return may_feed(words, m, r);
-    }
-    may_eat(words, m, r)
 }
 
-// Packet i makes a move that it may make. Returns the packet's record.
-pub fn act(
-    words: &mut [u16],
-    m: Mesh,
-    i: u8,
-    r: Record,
-    kind: u8,
-    channel: u16,
-    direction: u8,
-) -> Record
+/// Packet i makes a move that it may make. Returns the packet's record.
+pub fn act(words: &mut [u16], m: Mesh, i: u8, r: Record, step: Step) -> Record
     requires packet { Packet m r }
     requires memory { Memory m words.old }
-    requires known { known (meant m) kind channel direction ≡ true }
-    requires allowed { may (built m) (laid m words.old) i r kind channel direction ≡ true }
+    requires takes { takes (meant m) step ≡ true }
+    requires allowed { step_may (built m) (laid m words.old) i r step ≡ true }
     ensures { stepped (laid m words.new) result
-        ≡ act (built m) (laid m words.old) i r kind channel direction }
+        ≡ step_act (built m) (laid m words.old) i r step }
 {
-    if kind == LEAD {
-        return lead(words, m, i, r, direction);
+    match step {
+        Step::Lead(direction) => lead(words, m, i, r, direction),
+        Step::Follow(channel) => follow(words, m, r, channel),
+        Step::Feed => feed(words, m, r),
+        Step::Eat => eat(words, m, r),
     }
-    if kind == FOLLOW {
-        return follow(words, m, r, channel);
-    }
-    if kind == FEED {
-        return feed(words, m, r);
-    }
-    eat(words, m, r)
 }

@@ -1,9 +1,11 @@
-// The calls of `wormhole`, for C: each is the library's own, with its promise. `include/mesh.h` declares them.
+// The calls of `wormhole`, for C: each is the library's own, with its promise. A plan comes as its three
+// numbers, and the answer goes in C's form. `include/mesh.h` declares them.
 #![tactic(auto)]
 
 ghost use Rattle.std.specs.Prelude.{◌≡◌};
 ghost use Rattle.wormhole.specs.Calls.{left, reset, offer, move};
 
+use route::{Plan, code_of};
 use wormhole::{Offered, Record};
 
 // `wormhole::mesh_reset`.
@@ -12,7 +14,7 @@ pub extern "C" fn mesh_reset(columns: u8, rows: u8, words: &mut [u16], records: 
     ensures { left result words.new records.new
         ≡ reset columns rows words.old records.old }
 {
-    wormhole::mesh_reset(columns, rows, words, records)
+    code_of(wormhole::mesh_reset(columns, rows, words, records))
 }
 
 // `wormhole::mesh_offer`.
@@ -30,16 +32,12 @@ pub extern "C" fn mesh_offer(
     ensures { left result words.new records.new
         ≡ offer columns rows rule words.old records.old source destination flits }
 {
-    wormhole::mesh_offer(
+    let plan = Plan {
         columns,
         rows,
         rule,
-        words,
-        records,
-        source,
-        destination,
-        flits,
-    )
+    };
+    Offered::from(wormhole::mesh_offer(plan, words, records, source, destination, flits))
 }
 
 // `wormhole::mesh_move`.
@@ -58,7 +56,10 @@ pub extern "C" fn mesh_move(
     ensures { left result words.new records.new
         ≡ move columns rows rule words.old records.old «record» kind channel direction }
 {
-    wormhole::mesh_move(
-        columns, rows, rule, words, records, record, kind, channel, direction,
-    )
+    let plan = Plan {
+        columns,
+        rows,
+        rule,
+    };
+    code_of(wormhole::mesh_move(plan, words, records, record, kind, channel, direction))
 }

@@ -19,7 +19,7 @@ use Rattle.wormhole.specs.Memory.{net, sections, joined, none, fresh}
 use Rattle.wormhole.specs.Range.{flits_served}
 use Rattle.wormhole.specs.Steps.{known, may, act}
 use Rattle.wormhole.specs.Calls.{Left, left, offered, needed, bad_size, bad_memory, fits, lowest, bad_packet, bad_offer, offer, bad_move, move}
-use Rattle.wormhole.proofs.Refusing.{none_first, none_if, none_unless, size_good, offering}
+use Rattle.wormhole.proofs.Refusing.{none_first, none_if, none_unless, size_good, room_left}
 
 -- ---- refusals
 -- what a call answers is its refusal
@@ -142,7 +142,7 @@ module _ (C R rule : ℕ) (w : List ℕ) (rs : List Record) where
           some = leb_yes few.0;
           most = leb_yes few.1;
           apart = eqb_no (none_unless (eqb a b) 4 0 flits.1).0;
-          low = (offering C R rule (length w) (length rs) (fits C R rule w rs) (lowest rs) a b f (sym z) refl).below;
+          low = room_left C R rule (length w) (length rs) (fits C R rule w rs) (lowest rs) a b f (sym z);
           unused = lowest_unused rs;
           number = rw z refl;
           words = rw z refl;
@@ -160,4 +160,4 @@ pub sizes_served : (C R rule count : ℕ) → 2 ≤ C → C ≤ 16 → 2 ≤ R �
     → bad_size C R rule (needed C R) count ≡ 0
 sizes_served C R rule count c c' r r' five least most =
     let mesh : 0 ≡ bad_mesh C R rule = rw (le-ltb C 2 c, le-ltb 16 C c', le-ltb R 2 r, le-ltb 16 R r', le-ltb 4 rule five) refl in
-    sym (size_good C R rule (needed C R) count mesh refl (channels C R) refl refl least most)
+    sym (size_good C R rule count mesh least most)

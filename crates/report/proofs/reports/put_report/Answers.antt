@@ -1,24 +1,26 @@
 -- Each return by the tests before it. Assumes nothing.
-use Rattle.report.proofs.Reporting.{prints_refused, two_bytes, enough, part_reads, listed_so, few_drained, prints_stalled, prints_drained}
+use Rattle.report.proofs.Reporting.{prints_refused, drain_so, few_drained, prints_stalled, prints_drained}
 use Rattle.report.proofs.reports.put_report.Goals as goal
 
-pub returns-then-refusal-ne0 : goal.returns-then-refusal-ne0
-returns-then-refusal-ne0 c = search prints_refused
-
-pub need_of-need-requires : goal.need_of-need-requires
-need_of-need-requires c = search two_bytes
-
-pub slice_bounds-drain-end : goal.slice_bounds-drain-end
-slice_bounds-drain-end c = search enough
+pub returns-in-Err : goal.returns-in-Err
+returns-in-Err c = prints_refused _ _ _ c.in-Err.refusal c.in-Err.ensures.refusal c.from.ensures c.put_said.ensures
 
 pub drain-all-requires : goal.drain-all-requires
-drain-all-requires c = search part_reads
+drain-all-requires c =
+    let e = c.in-Ok.ensures in
+    record { mesh = e.mesh; readable = drain_so c.args.list.now c.args.words.now c.args.out.now e.refusal e.mesh c.words_needed-need.ensures.value }
 
 pub returns-then-not-is_idle : goal.returns-then-not-is_idle
-returns-then-not-is_idle c = search prints_stalled
+returns-then-not-is_idle c =
+    let e = c.in-Ok.ensures in
+    prints_stalled c.args.list.now c.args.words.now c.args.out.now e.refusal e.mesh c.words_needed-need.ensures.value _ _ c.drain-all.ensures c.is_idle.ensures c.if-not-is_idle.true c.put_text.ensures
 
-pub put_sheet-requires : goal.put_sheet-requires
-put_sheet-requires c = record { listed = search listed_so; few = search few_drained }
+pub put_sheet-requires-clause-few : goal.put_sheet-requires-clause-few
+put_sheet-requires-clause-few c =
+    let e = c.in-Ok.ensures in
+    few_drained c.args.list.now c.args.words.now c.args.out.now e.refusal e.mesh c.words_needed-need.ensures.value _ _ c.drain-all.ensures
 
 pub returns : goal.returns
-returns c = search prints_drained
+returns c =
+    let e = c.in-Ok.ensures in
+    prints_drained c.args.list.now c.args.words.now c.args.out.now e.refusal e.mesh c.words_needed-need.ensures.value _ _ c.drain-all.ensures c.is_idle.ensures c.if-not-is_idle.false c.put_sheet.ensures

@@ -1,7 +1,5 @@
--- The lines from packet i on are still to be put; each turn puts one more. Assumes nothing.
-use Prim.Native.Nat.{ℕ, ◌-◌, ◌≤◌}
-use mathlib.Core.Path.{◌≡◌}
-use lib.ListN.{length, get_or, drop}
+-- The lines from packet i on are still to be put. Assumes nothing.
+use Rattle.std.proofs.Common.{◌≡◌, ℕ, get_or, drop}
 use Rattle.traffic.specs.Lists.{after_lead}
 use Rattle.traffic.specs.Coded.{page, puts}
 use Rattle.report.specs.Text.{lines}
@@ -12,7 +10,4 @@ abbrev pub invariant-loop-i : goal.invariant-loop-i
 invariant-loop-i l =
     let hs = after_lead l.list in
     let made : ℕ → ℕ = λ j. get_or (counts l.all) j 0 in
-    (l.i ≤ l.n) × (puts (page l.out l.at) (lines l.i (drop l.i hs) made) ≡ puts (page l.initial.out l.end) (lines 0 hs made)) × (length l.out ≡ length l.initial.out)
-
-abbrev pub decreases-loop-i : goal.decreases-loop-i
-decreases-loop-i l = l.n - l.i
+    puts (page l.out l.at) (lines l.i (drop l.i hs) made) ≡ puts (page l.initial.out l.end) (lines 0 hs made)

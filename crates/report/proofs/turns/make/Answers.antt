@@ -1,12 +1,8 @@
--- The turn is accepted, so it may be made. Assumes nothing.
-use native.Mathlib.Omega.{arith}
-use borrow.Author.Rules.{rules}
+-- What the machine leaves, and one move more. Assumes nothing.
+use Rattle.std.proofs.Common.{arith}
 use Rattle.wormhole.specs.Coded.{built, laid}
-use Rattle.report.proofs.Turning.{make_known, make_live, make_may, made_counted}
+use Rattle.report.proofs.Turning.{made_counted}
 use Rattle.report.proofs.turns.make.Goals as goal
-
-pub act-packet-requires : goal.act-packet-requires
-act-packet-requires c = record { packet = record { fitting = search rules; live = search make_live }; memory = search rules; known = search make_known; allowed = search make_may }
 
 pub returns : goal.returns
 returns c =

@@ -2,7 +2,7 @@
 use native.Mathlib.Omega.{arith}
 use borrow.Author.Rules.{rules}
 use Rattle.route.proofs.Outputs.{column_level, column_barred, column_straight, column_turns}
-use Rattle.route.proofs.Tests.{no_if_not, yes_if_not}
+use Rattle.route.proofs.Tests.{no_if, yes_if}
 use Rattle.route.proofs.answers.column_leads.Goals as goal
 
 pub returns-then-c-eq0 : goal.returns-then-c-eq0
@@ -13,14 +13,14 @@ returns-then-c-eq0 c =
 pub returns-then-not-turn_ok : goal.returns-then-not-turn_ok
 returns-then-not-turn_ok c =
     column_barred _ _ _ _ (search rules) c.course_to-c.ensures
-    (no_if_not c.turn_ok.ensures c.if-not-turn_ok.true-raw)
+    (no_if c.turn_ok.ensures c.if-not-turn_ok.true)
 
 pub returns-then-c-eq0-2 : goal.returns-then-c-eq0-2
 returns-then-c-eq0-2 c =
     column_straight _ _ _ _ (search rules) c.course_to-c.ensures
-    (yes_if_not c.turn_ok.ensures c.if-not-turn_ok.false-raw) (omega arith) (omega arith)
+    (yes_if c.turn_ok.ensures c.if-not-turn_ok.false) (omega arith) (omega arith)
 
 pub returns : goal.returns
 returns c =
     column_turns _ _ _ _ (search rules) c.course_to-c.ensures
-    (yes_if_not c.turn_ok.ensures c.if-not-turn_ok.false-raw) (omega arith) (omega arith) c.turn_ok-2.ensures
+    (yes_if c.turn_ok.ensures c.if-not-turn_ok.false) (omega arith) (omega arith) c.turn_ok-2.ensures

@@ -1,5 +1,5 @@
 -- The four directions upward: what was passed over does not fall. Assumes nothing.
-use Prim.Native.Nat.{ℕ, ◌+◌, ◌*◌, ◌-◌, ◌≤◌, ◌<◌}
+use Prim.Native.Nat.{ℕ, ◌+◌, ◌*◌, ◌<◌}
 use mathlib.Core.Path.{◌≡◌}
 use mathlib.Core.Bool.{false}
 use Rattle.route.specs.Numbers.{node}
@@ -8,7 +8,4 @@ use Rattle.route.specs.Coded.{meant}
 use Rattle.route.proofs.checks.first_after.Given as goal
 
 abbrev pub invariant-loop-way : goal.invariant-loop-way
-invariant-loop-way l = (l.way ≤ 4) × ((o : ℕ) → o < 4 * node l.m.columns l.start + l.way → falls (meant l.m) l.list l.incoming o ≡ false)
-
-abbrev pub decreases-loop-way : goal.decreases-loop-way
-decreases-loop-way l = 4 - l.way
+invariant-loop-way l = (o : ℕ) → o < 4 * node l.m.columns l.start + l.way-index → falls (meant l.m) l.list l.incoming o ≡ false

@@ -1,8 +1,7 @@
 -- The channels upward: from none that was passed over do the numbers fall. Assumes nothing.
-use Prim.Native.Nat.{ℕ, ◌-◌, ◌≤◌, ◌<◌}
+use Prim.Native.Nat.{ℕ, ◌<◌}
 use mathlib.Core.Path.{◌≡◌}
 use mathlib.Core.Bool.{false}
-use lib.ListN.{length}
 use lib.Dec.{ltb}
 use Rattle.route.specs.Numbers.{channels}
 use Rattle.route.specs.Check.{first_after}
@@ -10,7 +9,4 @@ use Rattle.route.specs.Coded.{meant}
 use Rattle.route.proofs.checks.first_pair.Given as goal
 
 abbrev pub invariant-loop-incoming : goal.invariant-loop-incoming
-invariant-loop-incoming l = (l.incoming ≤ length l.list) × ((j : ℕ) → j < l.incoming → ltb (first_after (meant l.m) l.list j) (channels l.m.columns l.m.rows) ≡ false)
-
-abbrev pub decreases-loop-incoming : goal.decreases-loop-incoming
-decreases-loop-incoming l = length l.list - l.incoming
+invariant-loop-incoming l = (j : ℕ) → j < l.incoming → ltb (first_after (meant l.m) l.list j) (channels l.m.columns l.m.rows) ≡ false

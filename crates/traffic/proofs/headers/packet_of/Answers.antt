@@ -2,13 +2,14 @@
 use Prim.Native.Nat.{◌≤◌}
 use mathlib.Core.Path.{sym, ◌∙◌}
 use native.Mathlib.Omega.{arith}
+use Rattle.wormhole.proofs.Whole.{none_is}
 use Rattle.traffic.specs.Lists.{headers}
 use Rattle.traffic.proofs.Heads.{length_headers, no_packet, low_flits, packet_made}
 use Rattle.traffic.proofs.headers.packet_of.Goals as goal
 
 pub returns-then-bytes-i : goal.returns-then-bytes-i
 returns-then-bytes-i c = let x = c.args in
-    c.none.ensures ∙ sym (no_packet x.columns (headers x.bytes.now) x.i (omega (arith, length_headers x.bytes.now)))
+    none_is c.default.result c.default.ensures ∙ sym (no_packet x.m.columns (headers x.bytes.now) x.i (omega (arith, length_headers x.bytes.now)))
 
 pub overflow_cast-h : goal.overflow_cast-h
 overflow_cast-h c = let f : c.header_at-h.result.flits ≤ 200 = search low_flits in omega arith

@@ -1,22 +1,39 @@
 -- A turn fills one more record; after them what the parts leave is the whole. Assumes nothing.
-use Rattle.std.proofs.Common.{◌≡◌, refl, arith}
-use Rattle.traffic.specs.Lists.{after_lead, packets}
-use Rattle.traffic.specs.Coded.{stored}
-use Rattle.traffic.proofs.Storing.{stored_more}
-use Rattle.traffic.proofs.Whole.{whole_read}
+use mathlib.Core.Path.{◌≡◌, refl}
+use native.Mathlib.Omega.{arith}
+use borrow.Author.Rules.{rules}
+use lib.ListN.{length, replicate}
+use Rattle.std.proofs.lemmas.Result.{err_from_is_err_and}
+use Rattle.traffic.proofs.Storing.{stored, stored_more}
+use Rattle.traffic.proofs.Whole.{read_refused, read_long, read_lead, read_good, read_done}
 use Rattle.traffic.proofs.reads.mesh_read.Goals as goal
+
+pub returns-in_err-m : goal.returns-in_err-m
+returns-in_err-m c =
+    let p = err_from_is_err_and c.from_residual.result c.from_residual.ensures.1 in
+    rw (p.1, p.2) (read_refused _ _ _ c.in_err-m.field-0.0 c.in_err-m.ensures.refusal)
 
 pub loop-i-init : goal.loop-i-init
 unfolding stored
-loop-i-init c = (omega arith, refl)
+loop-i-init c = refl
+
+pub packet_at-requires : goal.packet_at-requires
+packet_at-requires c =
+    let x = c.args in
+    let e = c.in_ok-m.ensures in
+    record { in_bounds = read_lead x.list.now x.words.now x.records.now e.refusal e.mesh; headers_served = read_good x.list.now x.words.now x.records.now e.refusal e.mesh }
 
 pub loop-i-preserved : goal.loop-i-preserved
-loop-i-preserved c =
-    let ps = packets c.judge-answer.result.columns (after_lead c.args.list.now) in
-    (omega arith, stored_more ps c.args.records.now c.loop-i.i c.loop-i.invariant.1 c.packet_at-r.ensures c.put_back.ensures)
+loop-i-preserved c = stored_more _ _ c.loop-i.i c.loop-i.invariant c.packet_at.ensures refl
+
+pub lead_of-requires : goal.lead_of-requires
+lead_of-requires c = let e = c.in_ok-m.ensures in read_lead c.args.list.now c.args.words.now c.args.records.now e.refusal e.mesh
+
+pub packets_of-requires : goal.packets_of-requires
+packets_of-requires c = let e = c.in_ok-m.ensures in read_long c.args.list.now c.args.words.now c.args.records.now e.refusal e.mesh
 
 pub returns : goal.returns
 returns c =
-    let x = c.args in
-    let last : c.loop-i.i ≡ c.served_count-n.result = omega arith in
-    rw (c.loop-i.invariant.1, last, c.served_count-n.ensures, c.judge-answer.ensures.1, c.judge-answer.ensures.0) (whole_read x.list.now x.words.now x.records.now)
+    let e = c.in_ok-m.ensures in
+    let zeros : c.fill.new.self ≡ replicate (length c.args.words.now) 0 = search rules in
+    rw c.plan.ensures (read_done _ _ _ e.refusal e.mesh zeros c.loop-i.invariant (omega arith) c.lead_of.ensures c.packets_of.ensures.value)

@@ -1,50 +1,42 @@
 -- A turn writes one more record, which can be written; after them what the parts leave is the whole. Assumes nothing.
-use Rattle.std.proofs.Common.{ℕ, ◌<◌, ◌≡◌, ◌∙◌, List, ap, refl, arith, length, get_or}
-use Rattle.wormhole.specs.declared.records.Record.{Record}
-use Rattle.wormhole.specs.declared.surveys.Found.{Found}
-use Rattle.wormhole.specs.Memory.{none}
-use Rattle.wormhole.specs.Coded.{surveyed}
-use Rattle.traffic.specs.Coded.{Page, page, Start, start, starts}
-use Rattle.traffic.proofs.Whole.{wrote, wrote_more, Writing, begins, begins_writing, ends, whole_write}
+use mathlib.Core.Path.{refl}
+use native.Mathlib.Omega.{arith}
+use Rattle.std.proofs.lemmas.Result.{err_from_is_err_and}
+use Rattle.traffic.proofs.Whole.{wrote, wrote_more, write_refused, write_columns, write_rows, write_fits, write_short, write_done, lead_put}
 use Rattle.traffic.proofs.writes.mesh_write.Goals as goal
 
--- what `begin` left after the survey: a refusal, how many records are to be written, and the page so far
-module _ (C R rule : ℕ) (w : List ℕ) (rs : List Record) (out : List ℕ) {f : Found} (ef : f ≡ surveyed C R rs (length rs)) {k n : ℕ} {p : Page}
-    (eb : start k n p ≡ starts C R rule w f.fit (length rs) out) where
-  begun : start k n p ≡ begins C R rule w rs out
-  begun = eb ∙ ap (λ (g : Found). starts C R rule w g.fit (length rs) out) ef
+pub returns-in_err-m : goal.returns-in_err-m
+returns-in_err-m c =
+    let p = err_from_is_err_and c.from_residual.result c.from_residual.ensures.1 in
+    rw (p.1, p.2) (write_refused _ _ _ _ _ _ c.in_err-m.field-0.0 c.in_err-m.ensures.refusal)
 
-  can : {i : ℕ} {r : Record} → i < n → r ≡ get_or rs i none → Writing C R r
-  can l er = rw er (begins_writing C R rule w rs out (omega (arith, l, ap (λ (s : Start). s.count) begun)))
-
-  closed : {i : ℕ} {q : Page} → q ≡ wrote C p rs i → i ≡ n → q ≡ ends C R rule w rs out
-  closed eq last = eq ∙ (rw last refl ∙ ap (λ (s : Start). wrote C s.onto rs s.count) begun)
-
-pub loop-i-init : goal.loop-i-init
+pub loop-r-init : goal.loop-r-init
 unfolding wrote
-loop-i-init c = (omega arith, refl)
+loop-r-init c = refl
 
 pub put_record-end-requires : goal.put_record-end-requires
 put_record-end-requires c =
     let x = c.args in
-    let fit = can x.columns x.rows x.rule x.words.now x.records.now x.out.now c.survey-found.ensures c.begin-begun.ensures c.loop-i-test.true c.record_at-r.ensures in
-    record { columns_bound = fit.columns; rows_bound = fit.rows; fits = fit.fits }
+    let e = c.in_ok-m.ensures in
+    record {
+      columns_bound = write_columns _ _ x.plan.rule x.words.now x.records.now x.out.now e.refusal e.mesh;
+      rows_bound = write_rows _ _ x.plan.rule x.words.now x.records.now x.out.now e.refusal e.mesh;
+      fits = write_fits _ _ x.plan.rule x.words.now x.records.now x.out.now e.refusal e.mesh c.loop-r.r-index;
+    }
 
-pub loop-i-preserved : goal.loop-i-preserved
-loop-i-preserved c =
-    let b = c.begin-begun in
-    (omega arith, wrote_more c.args.columns (page b.new.out b.result.end) c.args.records.now c.loop-i.i c.loop-i.invariant.1 c.record_at-r.ensures c.put_record-end.ensures)
+pub loop-r-preserved : goal.loop-r-preserved
+loop-r-preserved c = wrote_more _ _ c.args.records.now c.loop-r.r-index c.loop-r.invariant refl c.put_record-end.ensures
 
-pub answer-requires : goal.answer-requires
-answer-requires c =
+pub overflow_cast-result : goal.overflow_cast-result
+overflow_cast-result c =
     let x = c.args in
-    let end = closed x.columns x.rows x.rule x.words.now x.records.now x.out.now c.survey-found.ensures c.begin-begun.ensures c.loop-i.invariant.1 (omega arith) in
-    omega (arith, (whole_write x.columns x.rows x.rule x.words.now x.records.now x.out.now).1, ap (λ (p : Page). p.end) end)
+    let e = c.in_ok-m.ensures in
+    let p = lead_put x.plan.columns x.plan.rows x.plan.rule _ c.put-sides.ensures c.put-end.ensures in
+    record { fits = omega (arith, write_short _ _ _ x.words.now x.records.now _ e.refusal e.mesh p c.loop-r.invariant (omega arith)) }
 
 pub returns : goal.returns
 returns c =
     let x = c.args in
-    let b = begun x.columns x.rows x.rule x.words.now x.records.now x.out.now c.survey-found.ensures c.begin-begun.ensures in
-    let e = closed x.columns x.rows x.rule x.words.now x.records.now x.out.now c.survey-found.ensures c.begin-begun.ensures c.loop-i.invariant.1 (omega arith) in
-    rw (c.answer.ensures, ap (λ (s : Start). s.refusal) b, ap (λ (p : Page). p.bytes) e, ap (λ (p : Page). p.end) e)
-    (whole_write x.columns x.rows x.rule x.words.now x.records.now x.out.now).0
+    let e = c.in_ok-m.ensures in
+    let p = lead_put x.plan.columns x.plan.rows x.plan.rule _ c.put-sides.ensures c.put-end.ensures in
+    write_done _ _ _ x.words.now x.records.now _ e.refusal e.mesh p c.loop-r.invariant (omega arith)

@@ -1,16 +1,13 @@
 -- By whether the record is live; a live one has two nodes of the mesh and a flit. Assumes nothing.
-use Prim.Native.Nat.{ℕ, ◌-◌, ◌*◌, ◌<◌}
+use Prim.Native.Nat.{ℕ, ◌-◌}
 use mathlib.Core.Path.{◌≡◌, refl, ◌∙◌}
-use mathlib.Core.Bool.{true}
 use mathlib.Core.List.{[], ◌∷◌}
-use native.Mathlib.Omega.{arith}
 use borrow.Author.Tests.{eq-eqb, ne_eqb}
+use Rattle.route.specs.Coded.{meant}
 use Rattle.wormhole.specs.declared.records.Record.{Record}
-use Rattle.wormhole.specs.Range.{record_fits}
-use Rattle.wormhole.specs.Coded.{sides}
 use Rattle.traffic.specs.Lists.{node_byte, record_bytes}
 use Rattle.traffic.specs.Coded.{Page, page, put, puts}
-use Rattle.traffic.proofs.Alive.{Alive, alive}
+use Rattle.traffic.proofs.Alive.{alive}
 use Rattle.traffic.proofs.Putting.{putting, put_last}
 use Rattle.traffic.proofs.writes.put_record.Goals as goal
 
@@ -24,28 +21,18 @@ module _ (p : Page) (C : ℕ) (r : Record) where
   three h {a} {b} {k} ea eb ek {p₁} {p₂} e₁ e₂ e₃ =
       rw (ne_eqb r.live 0 h, ← ea, ← eb, ← ek) (put_last p₂ k e₃ ∙ putting p₁ b (k ∷ []) e₂ ∙ putting p a (b ∷ k ∷ []) e₁)
 
-module _ (C R : ℕ) (r : Record) (fits : record_fits (sides C R) r ≡ true) (h : r.live ≡ 0 → ⊥) where
-  source_low : r.source < C * R
-  source_low = (alive (sides C R) r fits h).source
-
-  destination_low : r.destination < C * R
-  destination_low = (alive (sides C R) r fits h).destination
-
 pub returns-then-r-eq0 : goal.returns-then-r-eq0
 returns-then-r-eq0 c = search nothing
 
-pub node_byte-requires : goal.node_byte-requires
-node_byte-requires c = search source_low
+pub node_byte-requires-clause-node_bound : goal.node_byte-requires-clause-node_bound
+node_byte-requires-clause-node_bound c = (alive (meant c.args.m) c.args.r c.requires.fits c.if-r-eq0.false).source
 
-pub node_byte-requires-2 : goal.node_byte-requires-2
-node_byte-requires-2 c = search destination_low
+pub node_byte-requires-2-clause-node_bound : goal.node_byte-requires-2-clause-node_bound
+node_byte-requires-2-clause-node_bound c = (alive (meant c.args.m) c.args.r c.requires.fits c.if-r-eq0.false).destination
 
 pub overflow_sub-r : goal.overflow_sub-r
-overflow_sub-r c = let x = c.args in
-    let a : Alive (sides x.columns x.rows) x.r = search alive in
-    omega arith
+overflow_sub-r c = (alive (meant c.args.m) c.args.r c.requires.fits c.if-r-eq0.false).some
 
 pub returns : goal.returns
 returns c = let x = c.args in
-    let a : Alive (sides x.columns x.rows) x.r = search alive in
-    three (page x.out.now x.end) x.columns x.r (omega arith) c.node_byte.ensures c.node_byte-2.ensures (omega arith) c.put-source.ensures c.put-destination.ensures c.put.ensures
+    three (page x.out.now x.end) x.m.columns x.r c.if-r-eq0.false c.node_byte.ensures c.node_byte-2.ensures refl c.put-source.ensures c.put-destination.ensures c.put.ensures

@@ -1,7 +1,8 @@
 -- Each return by the tests before it. Assumes nothing.
+use mathlib.Core.Path.{refl, sym, ◌∙◌}
 use native.Mathlib.Omega.{arith}
-use borrow.Author.Rules.{rules}
-use Rattle.wormhole.proofs.Serving.{Told, tells}
+use borrow.Author.Tests.{not-true, not-false}
+use Rattle.wormhole.proofs.Serving.{tells}
 use Rattle.wormhole.proofs.Leading.{front_below}
 use Rattle.wormhole.proofs.Flowing.{eat_none, eat_away, eat_empty, eat_left}
 use Rattle.wormhole.proofs.eats.may_eat.Goals as goal
@@ -11,22 +12,25 @@ returns-then-r-eq0 c = search eat_none
 
 pub place_of-requires : goal.place_of-requires
 place_of-requires c =
-    let x = c.args in
-    let t : Told x.m x.r = search tells in
-    record { columns_nonzero = omega arith; node_bound = omega arith }
+    let t = tells c.args.m c.args.r c.requires.packet in
+    record { columns_nonzero = t.columns_low; node_bound = omega (arith, t.wide, t.destination) }
 
-pub returns-then-not-is : goal.returns-then-not-is
-returns-then-not-is c = search eat_away
+pub returns-then-ne : goal.returns-then-ne
+returns-then-ne c =
+    let h = c.header_of.ensures in
+    eat_away _ _ _ c.channels-n.ensures.value _ c.if-r-eq0.false _ _ h.place c.place_of.ensures _ refl (not-true _ (sym c.ne.ensures ∙ c.if-ne.true))
 
-pub holds_of-requires : goal.holds_of-requires
-holds_of-requires c =
+pub holds_of-requires-clause-k_lt_n : goal.holds_of-requires-clause-k_lt_n
+holds_of-requires-clause-k_lt_n c =
     let x = c.args in
-    let t : Told x.m x.r = search tells in
-    let low = front_below x.m x.r t (search rules) in
-    record { words_len = omega arith; k_lt_n = omega arith }
+    omega (arith, front_below x.m x.r (tells x.m x.r c.requires.packet) c.if-r-eq0.false)
 
 pub returns-then-holds_of-eq0 : goal.returns-then-holds_of-eq0
-returns-then-holds_of-eq0 c = search eat_empty
+returns-then-holds_of-eq0 c =
+    let h = c.header_of.ensures in
+    eat_empty _ _ _ c.channels-n.ensures.value _ c.if-r-eq0.false _ _ h.place c.place_of.ensures _ refl (not-false _ (sym c.ne.ensures ∙ c.if-ne.false)) _ c.holds_of.ensures (omega arith)
 
 pub returns : goal.returns
-returns c = search eat_left
+returns c =
+    let h = c.header_of.ensures in
+    eat_left _ _ _ c.channels-n.ensures.value _ c.if-r-eq0.false _ _ h.place c.place_of.ensures _ refl (not-false _ (sym c.ne.ensures ∙ c.if-ne.false)) _ c.holds_of.ensures (omega arith)

@@ -9,8 +9,8 @@ overflow_sub-r c = search feed_some
 pub fill-requires : goal.fill-requires
 fill-requires c = record { words_len = search rules; k_lt_n = search feed_in; k_bound = search feed_room }
 
-pub overflow_sub-s : goal.overflow_sub-s
-overflow_sub-s c = search feed_waiting
+pub overflow_sub-result : goal.overflow_sub-result
+overflow_sub-result c = search feed_waiting
 
 pub returns : goal.returns
 returns c = search fed

@@ -13,7 +13,7 @@ returns-then-holds_of-eq0 c = search follow_none
 pub has_room-requires : goal.has_room-requires
 has_room-requires c =
     let x = c.args in
-    record { words_len = search rules; word_le_n = next_low x.m _ _ x.k _ c.requires.memory c.channels_of-n.ensures.value (omega arith) c.next_of.ensures }
+    record { words_len = search rules; word_le_n = next_low x.m _ _ x.k _ c.requires.memory c.channels-n.ensures.value (omega arith) c.next_of.ensures }
 
 pub returns : goal.returns
 returns c = search follow_next

@@ -1,22 +1,23 @@
--- The bit of the direction in the set of outputs. Assumes nothing.
+-- The direction's bit in the set of outputs. Assumes nothing.
 use native.Mathlib.Omega.{arith}
+use Rattle.route.specs.Numbers.{facing}
 use Rattle.route.specs.Coded.{meant}
-use Rattle.route.proofs.Promises.{place_inside}
-use Rattle.wormhole.proofs.Serving.{Told, tells}
+use Rattle.route.proofs.Promises.{place_inside, dir_below}
+use Rattle.wormhole.proofs.Serving.{tells}
 use Rattle.wormhole.proofs.Leading.{open_way}
 use Rattle.wormhole.proofs.leads.is_open.Goals as goal
 
 pub place_of-requires : goal.place_of-requires
 place_of-requires c =
-    let x = c.args in
-    let t : Told x.m x.r = search tells in
-    record { columns_nonzero = omega arith; node_bound = omega arith }
+    let t = tells c.args.m c.args.r c.requires in
+    record { columns_nonzero = t.columns_low; node_bound = omega (arith, t.wide, t.destination) }
 
 pub outputs_at-outputs-requires : goal.outputs_at-outputs-requires
 outputs_at-outputs-requires c =
     let x = c.args in
-    let t : Told x.m x.r = search tells in
-    record { arrival_bound = omega arith; inside = rw c.place_of.ensures (place_inside (meant x.m) x.r.destination t.destination) }
+    rw c.place_of.ensures (place_inside (meant x.m) x.r.destination (tells x.m x.r c.requires).destination)
 
 pub returns : goal.returns
-returns c = search open_way
+returns c =
+    let h = c.header_of-header.ensures in
+    rw c.number.ensures (open_way _ c.args.r _ _ _ _ _ h.place h.arrival c.place_of.ensures c.outputs_at-outputs.ensures (dir_below (facing c.args.direction)))

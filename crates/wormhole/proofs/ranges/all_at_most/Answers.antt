@@ -1,18 +1,15 @@
--- The words before i are at most so great; each turn asks one more. Assumes nothing.
-use mathlib.Core.Path.{refl}
-use native.Mathlib.Omega.{arith}
+-- A chain over a slice gives the library's word for it. Assumes nothing.
+use mathlib.Core.Path.{sym, ◌∙◌}
 use borrow.Author.Rules.{rules}
-use Rattle.wormhole.proofs.InRange.{asked_all, low_enough, above}
+use borrow.Author.Tests.{tests}
+use Rattle.std.proofs.lemmas.Iterator.{YieldsList-from_slice}
+use Rattle.std.proofs.lemmas.Iterator.Search.{all_from_yields_List}
+use Rattle.wormhole.specs.Range.{at_most}
+use Rattle.wormhole.proofs.Every.{every_is}
 use Rattle.wormhole.proofs.ranges.all_at_most.Goals as goal
 
-pub loop-i-init : goal.loop-i-init
-loop-i-init c = (omega arith, refl)
-
-pub returns-then-most-section : goal.returns-then-most-section
-returns-then-most-section c = search above
-
-pub loop-i-preserved : goal.loop-i-preserved
-loop-i-preserved c = (search rules, search low_enough)
-
 pub returns : goal.returns
-returns c = search asked_all
+unfolding at_most
+returns c =
+    all_from_yields_List (at_most c.args.most) _ _ c.all.result c.all.ensures.ran (YieldsList-from_slice c.args.section.now cc) (λ x b q k. search (rules, tests))
+    ∙ sym (every_is (at_most c.args.most) c.args.section.now)

@@ -1,18 +1,15 @@
--- The words before i name channels or none; each turn asks one more. Assumes nothing.
-use mathlib.Core.Path.{refl}
-use native.Mathlib.Omega.{arith}
+-- A chain over a slice gives the library's word for it. Assumes nothing.
+use mathlib.Core.Path.{sym, ◌∙◌}
 use borrow.Author.Rules.{rules}
-use Rattle.wormhole.proofs.InRange.{asked_all, naming, not_naming}
+use borrow.Author.Tests.{tests}
+use Rattle.std.proofs.lemmas.Iterator.{YieldsList-from_slice}
+use Rattle.std.proofs.lemmas.Iterator.Search.{all_from_yields_List}
+use Rattle.route.specs.Coded.{meant}
+use Rattle.wormhole.specs.Range.{names}
+use Rattle.wormhole.proofs.Every.{every_is}
 use Rattle.wormhole.proofs.ranges.all_name.Goals as goal
 
-pub loop-i-init : goal.loop-i-init
-loop-i-init c = (omega arith, refl)
-
-pub returns-then-not-names : goal.returns-then-not-names
-returns-then-not-names c = search not_naming
-
-pub loop-i-preserved : goal.loop-i-preserved
-loop-i-preserved c = (search rules, search naming)
-
 pub returns : goal.returns
-returns c = search asked_all
+returns c =
+    all_from_yields_List (names (meant c.args.m)) _ _ c.all.result c.all.ensures.ran (YieldsList-from_slice c.args.section.now cc) (λ x b q k. search (rules, tests))
+    ∙ sym (every_is (names (meant c.args.m)) c.args.section.now)

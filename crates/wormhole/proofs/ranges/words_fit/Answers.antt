@@ -1,4 +1,4 @@
--- Each part that is handed on is a section. Assumes nothing.
+-- Each return by the sections that have been asked before it. Assumes nothing.
 use Rattle.wormhole.proofs.InRange.{owner_above, holds_above, next_asked}
 use Rattle.wormhole.proofs.ranges.words_fit.Goals as goal
 

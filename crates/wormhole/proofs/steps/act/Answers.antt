@@ -1,27 +1,39 @@
--- Each kind has its own step. Assumes nothing.
-use Rattle.wormhole.proofs.ByKind.{direction_low, channel_low, may_as_lead, may_as_follow, may_as_feed, may_as_eat, act_as_lead, act_as_follow, act_as_feed, act_as_eat}
+-- Each return by the kind that led there. Assumes nothing.
+use Rattle.wormhole.specs.Steps.{may, act}
+use Rattle.wormhole.proofs.ByKind.{channel_low, may_follows}
 use Rattle.wormhole.proofs.steps.act.Goals as goal
 
-pub lead-requires : goal.lead-requires
-lead-requires c = record { packet = c.requires.packet; memory = c.requires.memory; direction_bound = search direction_low; may = search may_as_lead }
+pub lead-requires-clause-may : goal.lead-requires-clause-may
+unfolding may
+lead-requires-clause-may c = rw c.in-Lead.is at c.requires.allowed
 
-pub returns-then-kind-eq-LEAD : goal.returns-then-kind-eq-LEAD
-returns-then-kind-eq-LEAD c = search act_as_lead
+pub follow-requires-clause-k_bound : goal.follow-requires-clause-k_bound
+follow-requires-clause-k_bound c = channel_low c.args.m c.in-Follow.channel (rw c.in-Follow.is at c.requires.takes)
 
-pub follow-requires : goal.follow-requires
-follow-requires c = record { roomy = c.requires.packet.fitting.roomy; memory = c.requires.memory; k_bound = search channel_low; may = search may_as_follow }
+pub follow-requires-clause-may : goal.follow-requires-clause-may
+unfolding may
+follow-requires-clause-may c = may_follows _ _ c.args.i _ (rw c.in-Follow.is at c.requires.allowed)
 
-pub returns-then-kind-eq-FOLLOW : goal.returns-then-kind-eq-FOLLOW
-returns-then-kind-eq-FOLLOW c = search act_as_follow
+pub feed-requires-clause-may : goal.feed-requires-clause-may
+unfolding may
+feed-requires-clause-may c = rw c.in-Feed.is at c.requires.allowed
 
-pub feed-requires : goal.feed-requires
-feed-requires c = record { packet = c.requires.packet; memory = c.requires.memory; may = search may_as_feed }
+pub eat-requires-clause-may : goal.eat-requires-clause-may
+unfolding may
+eat-requires-clause-may c = rw c.in-Eat.is at c.requires.allowed
 
-pub returns-then-kind-eq-FEED : goal.returns-then-kind-eq-FEED
-returns-then-kind-eq-FEED c = search act_as_feed
+pub returns-in-Lead : goal.returns-in-Lead
+unfolding act
+returns-in-Lead c = rw c.in-Lead.is c.lead.ensures
 
-pub eat-requires : goal.eat-requires
-eat-requires c = record { packet = c.requires.packet; memory = c.requires.memory; may = search may_as_eat }
+pub returns-in-Follow : goal.returns-in-Follow
+unfolding act
+returns-in-Follow c = rw c.in-Follow.is c.follow.ensures
 
-pub returns : goal.returns
-returns c = search act_as_eat
+pub returns-in-Feed : goal.returns-in-Feed
+unfolding act
+returns-in-Feed c = rw c.in-Feed.is c.feed.ensures
+
+pub returns-in-Eat : goal.returns-in-Eat
+unfolding act
+returns-in-Eat c = rw c.in-Eat.is c.eat.ensures
