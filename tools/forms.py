@@ -24,13 +24,14 @@ def lines(pattern):
 
 
 def functions():
-    """Each function: its file, its name, its parameters and its clauses."""
+    """Each function: its file, its name, its parameters and what it asks for."""
     for name, text in code.items():
-        for m in re.finditer(r"\bfn (\w+)(?:<[^>]*>)?\(([^)]*)\)([^{]*?(?:\n\s+(?:requires|ensures)[^\n]*(?:\n\s{6,}[^\n]*)*)*)", text):
-            head = m.group(3)
-            clauses = re.findall(r"requires \w* ?\{ (.*?) \}(?:\n|$)", head)
-            params = [p.strip() for p in m.group(2).replace("\n", " ").split(",") if p.strip()]
-            yield name, m.group(1), params, clauses
+        heads = list(re.finditer(r"\bfn (\w+)(?:<[^>]*>)?\(", text))
+        for m, after in zip(heads, heads[1:] + [None]):
+            whole = text[m.end():after.start() if after else len(text)]
+            params = [p.strip() for p in whole[:whole.index(")")].replace("\n", " ").split(",") if p.strip()]
+            asked = re.findall(r"\n *requires(?: \w+)? \{ (.*?) \}(?=\n)", whole)
+            yield name, m.group(1), params, asked
 
 
 def show(title, found):
@@ -51,20 +52,20 @@ show("6 a buffer with its end beside it", lines(r"out: &mut \[u8\], (end|at): us
 show("6 words with their count beside them", lines(r"words: &(mut )?\[u16\], n: usize"))
 show("7 a switch on the kind of a move", lines(r"(kind|j) == \w+|kind != FOLLOW|kind <= EAT|match (kind|step|self) \{"))
 
-together = collections.Counter()
+together = collections.defaultdict(list)
 facts = collections.defaultdict(set)
-for name, fn, params, clauses in functions():
+for name, fn, params, asked in functions():
     names = [p.split(":")[0].strip() for p in params]
     for group in (("columns", "rows"), ("columns", "rows", "rule"), ("words", "n"), ("m", "rule"), ("kind", "channel", "direction")):
         if all(g in names for g in group):
-            together[group] += 1
-    for c in clauses:
-        facts[re.sub(r"\b(self\.mesh|self)\b", "m", c)].add((name, fn))
-for group, count in sorted(together.items()):
-    print(f"5 parameters that go together, {', '.join(group)}: {count}")
+            together[group].append((name, fn))
+    for fact in asked:
+        facts[fact].add((name, fn))
+for group, where in sorted(together.items()):
+    show(f"5 parameters that go together, {', '.join(group)}", where)
 for fact, where in sorted(facts.items(), key=lambda x: -len(x[1])):
     if len(where) >= 3:
-        print(f"5 a fact asked by {len(where)} functions: {fact}")
+        show(f"5 functions that ask for the fact {fact}", sorted(where))
 print("8 lines of proofs for one function:", sum(
     len(open(f, encoding="utf-8").read().split("\n")) - 1
     for f in glob.glob(os.path.join(top, "crates", "*", "proofs", "**", "*.antt"), recursive=True)

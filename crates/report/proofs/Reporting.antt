@@ -10,6 +10,7 @@ use lib.ListN.{length, take, drop, replicate, length-append, length-take}
 use lib.Seq.{length-take-le}
 use borrow.Author.Tests.{lt-ltb, le-ltb, ltb-true, ltb-false}
 use Rattle.std.specs.Prelude.{Result, Ok, Err, is_ok}
+use Rattle.std.specs.Borrow.{MutBor}
 use Rattle.route.specs.declared.refusals.Refusal.{Refusal}
 use Rattle.route.specs.Grid.{pick}
 use Rattle.route.specs.Numbers.{channels, rule_of}
@@ -24,7 +25,8 @@ use Rattle.traffic.specs.declared.headers.Header.{Header}
 use Rattle.traffic.specs.declared.pages.Written.{Written}
 use Rattle.traffic.specs.Lists.{listed, lead, after_lead, outside, bad_header, bad_headers}
 use Rattle.traffic.specs.Calls.{bad_read, written, written_of, over}
-use Rattle.traffic.specs.Coded.{Page, page, puts}
+use Rattle.traffic.specs.declared.pages.Page.{Page}
+use Rattle.traffic.specs.Coded.{page, turned, puts}
 use Rattle.traffic.proofs.Allowed.{read_answers}
 use Rattle.traffic.proofs.Putting.{puts_over}
 use Rattle.report.specs.declared.turns.Counted.{Counted}
@@ -55,7 +57,7 @@ drain_few bs w z =
     few_made l.columns l.rows l.rule (drain bs w) (reached_drained l.columns l.rows l.rule _ (source bs w z) (reached bs w z))
 
 -- ---- of words of which the first are read into
-module _ (bs w out : List ℕ) where
+module _ (bs w : List ℕ) (old : Page) where
   abbrev part : List ℕ
   part = take (need bs) w
 
@@ -63,9 +65,9 @@ module _ (bs w out : List ℕ) where
   judged hk = read_answers bs part (replicate 64 none) ∙ rw (length-take (need bs) w) (sym hk)
 
   -- refused
-  pub prints_refused : (e : Refusal) → code e ≡ bad_read bs (min (need bs) (length w)) 64 → {n : ℕ} {p : Page} → n ≡ code e → p ≡ puts (page out 0) (said refused_word n) → printed w p ≡ prints bs w out
+  pub prints_refused : (e : Refusal) → code e ≡ bad_read bs (min (need bs) (length w)) 64 → {n : ℕ} {p : Page} → n ≡ code e → p ≡ puts old (said refused_word n) → printed w p ≡ prints bs w old
   unfolding prints
-  prints_refused e hk en ep = rw (judged hk, ep, en) (sym (refuses_by (λ c. printed w (puts (page out 0) (said refused_word c))) _ e))
+  prints_refused e hk en ep = rw (judged hk, ep, en) (sym (refuses_by (λ c. printed w (puts old (said refused_word c))) _ e))
 
   -- read, into the mesh g of its lead
   module _ (served : 0 ≡ bad_read bs (min (need bs) (length w)) 64) {g : Mesh} (eg : g ≡ ruled (rule_of (lead bs).rule) (lead bs).columns (lead bs).rows 0) where
@@ -96,12 +98,12 @@ module _ (bs w out : List ℕ) where
           arrived : idle (drain bs part).lent.records ≡ b
           arrived = sym (eb ∙ ap (λ (S : Tally). idle S.lent.records) same)
 
-          pub prints_stalled : b ≡ false → {p : Page} → p ≡ puts (page out 0) stalled → printed (take 0 w ++ (v ++ drop (n - 0) (drop 0 w))) p ≡ prints bs w out
+          pub prints_stalled : b ≡ false → {p : Page} → p ≡ puts old stalled → printed (take 0 w ++ (v ++ drop (n - 0) (drop 0 w))) p ≡ prints bs w old
           unfolding prints
           prints_stalled h ep = rw (judged served, words_left, ep, arrived ∙ h) refl
 
-          pub prints_drained : b ≡ true → {p : Page} → p ≡ puts (page out 0) (drained_sheet bs (counts cs))
-              → printed (take 0 w ++ (v ++ drop (n - 0) (drop 0 w))) p ≡ prints bs w out
+          pub prints_drained : b ≡ true → {p : Page} → p ≡ puts old (drained_sheet bs (counts cs))
+              → printed (take 0 w ++ (v ++ drop (n - 0) (drop 0 w))) p ≡ prints bs w old
           unfolding prints
           prints_drained h ep =
               let made : counts cs ≡ (drain bs part).made = ap (λ (S : Tally). S.made) same in
@@ -154,7 +156,7 @@ module _ (bs w out : List ℕ) (room : 1024 ≤ length out) where
     text : List ℕ
     left : List ℕ
     short : length text ≤ 1024
-    print : prints bs w out ≡ printed left (puts (page out 0) text)
+    print : (p : Page) → prints bs w p ≡ printed left (puts p text)
     whole : report bs w out ≡ record { answer = written 0 (length text); words = left; bytes = over text out }
 
   whole_of : Whole
@@ -169,7 +171,7 @@ module _ (bs w out : List ℕ) (room : 1024 ≤ length out) where
             text = sheet bs S;
             left = S.lent.words ++ drop (need bs) w;
             short = sheet_short bs (length (take (need bs) w)) z S (drain_few bs (take (need bs) w) z);
-            print = rw e refl;
+            print = λ p. rw e refl;
             whole = rw (e, le-ltb (length out) 1024 room) refl;
           }
       by (suc k) e =
@@ -178,25 +180,33 @@ module _ (bs w out : List ℕ) (room : 1024 ≤ length out) where
             text = said refused_word (suc k);
             left = w;
             short = refused_short (suc k) l;
-            print = rw e refl;
+            print = λ p. rw e refl;
             whole = rw (e, le-ltb (length out) 1024 room) refl;
           }
 
-  module _ (v p : List ℕ) (n : ℕ) (e : printed v (page p n) ≡ prints bs w out) where
-    sheeted : printed v (page p n) ≡ printed whole_of.left (page (over whole_of.text out) (length whole_of.text))
+  -- on a page over the lent bytes
+  module _ (lent : MutBor (List ℕ)) (el : lent.now ≡ out) (v : List ℕ) (p : Page) (e : printed v p ≡ prints bs w (page lent)) where
+    sheeted : printed v p ≡ printed whole_of.left (turned (page lent) (over whole_of.text out) (length whole_of.text))
     sheeted =
         let W = whole_of in
-        e ∙ (W.print ∙ ap (printed W.left) (puts_over W.text out (omega (arith, W.short, room))))
+        let room_lent : length W.text ≤ length lent.now = rw el (omega (arith, W.short, room)) in
+        let stands = puts_over (page lent) W.text lent.now room_lent ∙ ap (λ o. turned (page lent) (over W.text o) (length W.text)) el in
+        e ∙ (W.print (page lent) ∙ ap (printed W.left) stands)
 
-    pub report_length : n < 65536
-    report_length =
-        let q : n ≡ length whole_of.text = ap (λ (x : Printed). x.sheet.end) sheeted in
-        omega (arith, q, whole_of.short)
+    -- it is over the same lent bytes
+    pub report_lent : lent.ghost_name ≡ p.out.ghost_name
+    report_lent = sym (ap (λ (x : Printed). x.sheet.out.ghost_name) sheeted)
 
-    pub report_done : record { answer = written 0 n; words = v; bytes = p } ≡ report bs w out
-    report_done =
-        let so : Printed → Reported = λ x. record { answer = written 0 x.sheet.end; words = x.words; bytes = x.sheet.bytes } in
-        ap so sheeted ∙ sym whole_of.whole
+    module _ {n : ℕ} (en : n ≡ p.end) where
+      pub report_length : n < 65536
+      report_length =
+          let q : p.end ≡ length whole_of.text = ap (λ (x : Printed). x.sheet.end) sheeted in
+          omega (arith, en, q, whole_of.short)
+
+      pub report_done : {left : List ℕ} → left ≡ p.out.now → record { answer = written 0 n; words = v; bytes = left } ≡ report bs w out
+      report_done eb =
+          let so : Printed → Reported = λ x. record { answer = written 0 x.sheet.end; words = x.words; bytes = x.sheet.out.now } in
+          rw (en, eb) (ap so sheeted ∙ sym whole_of.whole)
 
 -- too few bytes
 pub report_refused : (bs w out : List ℕ) → length out < 1024 → record { answer = written 7 0; words = w; bytes = out } ≡ report bs w out

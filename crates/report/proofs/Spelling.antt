@@ -12,7 +12,8 @@ use borrow.Author.Tests.{lt-ltb, le-ltb, ltb-false}
 use Rattle.route.specs.Grid.{dist}
 use Rattle.traffic.specs.declared.headers.Header.{Header}
 use Rattle.traffic.specs.Lists.{after_lead}
-use Rattle.traffic.specs.Coded.{Page, put, puts}
+use Rattle.traffic.specs.declared.pages.Page.{Page}
+use Rattle.traffic.specs.Coded.{put, puts}
 use Rattle.traffic.proofs.Putting.{putting, put_last, puts_append}
 use Rattle.report.specs.Sweeps.{sum}
 use Rattle.report.specs.Text.{digits, decimal, heading, total_word, said, line, lines}
@@ -62,8 +63,8 @@ decimal_more n h = rw (le-ltb n 10 h, enough n (suc (n / 10)) (n / 10) (omega ar
 
 -- ---- a number that is put
 -- its one digit
-pub put_one : (p : Page) {q : Page} (n : ℕ) → n < 10 → q ≡ put p (48 + n) → q ≡ puts p (decimal n)
-put_one p n h e = rw (decimal_one n h) (put_last p (48 + n) e)
+pub put_one : (p : Page) {q : Page} (n : ℕ) → n < 10 → q ≡ put p (48 + n % 10) → q ≡ puts p (decimal n)
+put_one p n h e = let d : n % 10 ≡ n = omega arith in rw (decimal_one n h) (put_last p (48 + n) (rw d at e))
 
 -- the digits of its tenth, and the last
 pub put_tenth : (p : Page) {q r : Page} (n : ℕ) → 10 ≤ n → q ≡ puts p (decimal (n / 10)) → r ≡ put q (48 + n % 10) → r ≡ puts p (decimal n)

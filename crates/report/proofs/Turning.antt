@@ -1,38 +1,22 @@
 -- A turn as the code has it is the move that it makes: by the kinds of its step; and a follow that nobody could make. Assumes nothing.
-use Prim.Native.Nat.{ℕ, zero, suc, ◌+◌, ◌<◌}
+use Prim.Native.Nat.{ℕ, suc, ◌+◌}
 use mathlib.Core.Path.{◌≡◌, refl}
 use mathlib.Core.Bool.{false, ◌&&◌, and-false}
-use mathlib.Core.List.{[], ◌∷◌}
 use native.Mathlib.Omega.{arith}
 use lib.Dec.{eqb}
-use lib.ListN.{get_or}
 use borrow.Author.Tests.{ne_eqb}
-use Rattle.route.specs.declared.directions.Direction.TheVariants.{West, East, South, North}
 use Rattle.route.specs.Channels.{is_channel}
 use Rattle.wormhole.specs.declared.records.Record.{Record}
-use Rattle.wormhole.specs.declared.steps.Step.{Step}
-use Rattle.wormhole.specs.declared.steps.Step.TheVariants.{Lead, Feed, Eat}
 use Rattle.wormhole.specs.Memory.{Net, Sections, owner_of}
 use Rattle.wormhole.specs.Steps.{stepped, known, may, may_follow}
 use Rattle.wormhole.specs.Calls.{allowed}
 use Rattle.wormhole.specs.Drains.{Move}
-use Rattle.wormhole.specs.Coded.{Means, step_act}
+use Rattle.wormhole.specs.Coded.{step_act}
 use Rattle.wormhole.proofs.ByKind.{known_same, allowed_same, act_same}
 use Rattle.report.specs.declared.turns.Counted.{Counted}
 use Rattle.report.specs.declared.turns.Turn.{Turn}
-use Rattle.report.specs.Sweeps.{own_turn}
 use Rattle.report.specs.Coded.{Makes, accepted, done}
 use Rattle.report.proofs.Trying.{made_by}
-
--- ---- the six turns of a record
-own_means : (d : Step) (j : ℕ) → j < 6 → Means (get_or (Lead West ∷ Lead East ∷ Lead South ∷ Lead North ∷ Feed ∷ Eat ∷ []) j d) (own_turn j).kind 0 (own_turn j).direction
-own_means d zero l = (refl, refl)
-own_means d (suc zero) l = (refl, refl)
-own_means d (suc (suc zero)) l = (refl, refl)
-own_means d (suc (suc (suc zero))) l = (refl, refl)
-own_means d (suc (suc (suc (suc zero)))) l = refl
-own_means d (suc (suc (suc (suc (suc zero))))) l = refl
-own_means d (suc (suc (suc (suc (suc (suc j)))))) l = absurd (omega arith)
 
 -- ---- what it tries
 module _ (N : Net) (s : Sections) (v : Turn) (to : Move) (h : Makes v to) where

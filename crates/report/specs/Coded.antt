@@ -6,7 +6,8 @@ use Rattle.wormhole.specs.declared.steps.Step.{Step}
 use Rattle.wormhole.specs.Memory.{Net, Sections}
 use Rattle.wormhole.specs.Drains.{Move, Call, now, work, made}
 use Rattle.wormhole.specs.Coded.{Means, takes, step_allowed, step_act}
-use Rattle.traffic.specs.Coded.{Page, page, puts}
+use Rattle.traffic.specs.declared.pages.Page.{Page}
+use Rattle.traffic.specs.Coded.{puts}
 use Rattle.report.specs.declared.turns.Counted.{Counted}
 use Rattle.report.specs.declared.turns.Turn.{Turn}
 use Rattle.report.specs.Sweeps.{Tally, sum}
@@ -67,9 +68,9 @@ pub record Printed : Type 0 where
 abbrev pub printed : List ℕ → Page → Printed
 printed w p = record { words = w; sheet = p }
 
--- the sheet of a list, written
-unfoldable pub prints : List ℕ → List ℕ → List ℕ → Printed
-prints bs w out =
+-- the sheet of a list, written on a page
+unfoldable pub prints : List ℕ → List ℕ → Page → Printed
+prints bs w p =
     let part = take (need bs) w in
-    unless (λ k. printed w (puts (page out 0) (said refused_word k))) (reading bs part).answer.refusal
-    (let S = drain bs part in printed (S.lent.words ++ drop (need bs) w) (puts (page out 0) (sheet bs S)))
+    unless (λ k. printed w (puts p (said refused_word k))) (reading bs part).answer.refusal
+    (let S = drain bs part in printed (S.lent.words ++ drop (need bs) w) (puts p (sheet bs S)))

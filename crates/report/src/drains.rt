@@ -12,7 +12,7 @@ ghost use Rattle.report.specs.Coded.{recs, counts, tally, Reached};
 use crate::turns::{Counted, OWN_TURNS, RECORDS, is_accepted, make, turn_at};
 use route::{Mesh, Plan};
 use traffic::{lead_of, packet_at};
-use wormhole::Record;
+use wormhole::{Record, Words};
 
 // More sweeps than a list can keep busy.
 const MOST_SWEEPS: u32 = 396801;
@@ -59,7 +59,7 @@ fn sweep(words: &mut [u16], plan: Plan, m: Mesh, all: &mut [Counted; RECORDS])
 {
     let n = m.channels();
     for t in 0..OWN_TURNS * RECORDS + n {
-        let Some(v) = turn_at(words, n, t) else {
+        let Some(v) = turn_at(Words { n, words }, t) else {
             continue;
         };
         let counted = &mut all[v.packet as usize];

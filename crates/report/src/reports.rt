@@ -6,7 +6,6 @@ ghost use Rattle.route.specs.Served.{refusal_of};
 ghost use Rattle.route.specs.Coded.{meant};
 ghost use Rattle.traffic.specs.Lists.{lead};
 ghost use Rattle.traffic.specs.Calls.{bad_read, written_of};
-ghost use Rattle.traffic.specs.Coded.{page};
 ghost use Rattle.report.specs.Calls.{need, report};
 ghost use Rattle.report.specs.Coded.{printed, prints};
 
@@ -15,7 +14,7 @@ use crate::sheets::put_sheet;
 use crate::texts::{put_said, put_text};
 use crate::turns::RECORDS;
 use route::{Mesh, Refusal};
-use traffic::{lead_of, readable};
+use traffic::{Page, lead_of, readable};
 use wormhole::words_needed;
 
 // The fewest bytes that are lent for a sheet; none is longer.
@@ -37,21 +36,24 @@ fn judge(list: &[u8], words: usize) -> Result<Mesh, Refusal>
     )
 }
 
-// Writes the sheet of a list. Returns its length.
-fn put_report(list: &[u8], words: &mut [u16], out: &mut [u8]) -> usize
-    ensures { printed words.new (page out.new result)
-        ≡ prints list.now words.old out.old }
+// Writes the sheet of a list.
+fn put_report(page: &mut Page, list: &[u8], words: &mut [u16])
+    ensures { printed words.new page.new ≡ prints list.now words.old page.old }
 {
     let m = match judge(list, words.len()) {
         Ok(m) => m,
-        Err(refusal) => return put_said(out, 0, b"refused ", u8::from(refusal) as u32),
+        Err(refusal) => {
+            put_said(page, b"refused ", u8::from(refusal) as u32);
+            return;
+        }
     };
     let need = words_needed(m.columns, m.rows);
     let all = drain(list, m, &mut words[0..need]);
-    if !is_idle(&all) {
-        return put_text(out, 0, b"stalled\n");
+    if is_idle(&all) {
+        put_sheet(page, list, &all);
+    } else {
+        put_text(page, b"stalled\n");
     }
-    put_sheet(out, list, &all)
 }
 
 /// Reads a list, drains it, writes its sheet at the start of lent bytes, and answers its length. With a
@@ -63,5 +65,7 @@ pub fn mesh_report(list: &[u8], words: &mut [u16], out: &mut [u8]) -> Result<u16
     if out.len() < SHEET_BYTES {
         return Err(Refusal::BadSize);
     }
-    Ok(put_report(list, words, out) as u16)
+    let mut page = Page::new(out);
+    put_report(&mut page, list, words);
+    Ok(page.len() as u16)
 }

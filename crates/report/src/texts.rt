@@ -1,37 +1,34 @@
-// Text, written byte by byte at the start of lent bytes.
+// Text, written byte by byte on a page.
 ghost use Rattle.std.specs.Prelude.{◌≡◌};
-ghost use Rattle.traffic.specs.Coded.{page, puts};
+ghost use Rattle.traffic.specs.Coded.{puts};
 ghost use Rattle.report.specs.Text.{decimal, said};
 
-use traffic::put;
+use traffic::Page;
 
-// Writes bytes at the end. Returns where the next one goes.
-pub fn put_text(out: &mut [u8], end: usize, text: &[u8]) -> usize
-    ensures { page out.new result ≡ puts (page out.old end) text.now }
+// Writes bytes.
+pub fn put_text(page: &mut Page, text: &[u8])
+    ensures { page.new ≡ puts page.old text.now }
 {
-    let mut at = end;
     for &byte in text {
-        at = put(out, at, byte);
+        page.put(byte);
     }
-    at
 }
 
-// Writes a number in decimal at the end. Returns where the next byte goes.
-pub fn put_number(out: &mut [u8], end: usize, n: u32) -> usize
-    ensures { page out.new result ≡ puts (page out.old end) (decimal n) }
+// Writes a number in decimal.
+pub fn put_number(page: &mut Page, n: u32)
+    ensures { page.new ≡ puts page.old (decimal n) }
 {
-    if n < 10 {
-        return put(out, end, b'0' + n as u8);
+    if n >= 10 {
+        put_number(page, n / 10);
     }
-    let at = put_number(out, end, n / 10);
-    put(out, at, b'0' + (n % 10) as u8)
+    page.put(b'0' + (n % 10) as u8);
 }
 
-// Writes a word, a number and a newline at the end. Returns where the next byte goes.
-pub fn put_said(out: &mut [u8], end: usize, word: &[u8], n: u32) -> usize
-    ensures { page out.new result ≡ puts (page out.old end) (said word.now n) }
+// Writes a word, a number and a newline.
+pub fn put_said(page: &mut Page, word: &[u8], n: u32)
+    ensures { page.new ≡ puts page.old (said word.now n) }
 {
-    let spoken = put_text(out, end, word);
-    let counted = put_number(out, spoken, n);
-    put(out, counted, b'\n')
+    put_text(page, word);
+    put_number(page, n);
+    page.put(b'\n');
 }

@@ -1,12 +1,12 @@
 // One turn of a sweep: which move it tries, and what becomes of the packet that tries it.
-ghost use Rattle.std.specs.Prelude.{◌≡◌, true, ◌+◌, ◌-◌, ◌<◌, ◌≤◌, ◌^◌, IfSome, IfNone, length};
-ghost use Rattle.wormhole.specs.Memory.{sections, owner_of};
-ghost use Rattle.wormhole.specs.Coded.{Fitting, Memory, built, laid};
+ghost use Rattle.std.specs.Prelude.{◌≡◌, true, ◌+◌, ◌-◌, ◌<◌, ◌≤◌, ◌^◌, IfSome, IfNone};
+ghost use Rattle.wormhole.specs.Memory.{owner_of};
+ghost use Rattle.wormhole.specs.Coded.{Fitting, Memory, built, laid, seen};
 ghost use Rattle.report.specs.Sweeps.{own_turn, turn};
 ghost use Rattle.report.specs.Coded.{accepted, done, Makes};
 
 use route::{Direction, Mesh};
-use wormhole::{Record, Step, act, may_move, owner_of};
+use wormhole::{Record, Step, Words, act, may_move};
 
 // The records of a report.
 pub const RECORDS: usize = 64;
@@ -49,21 +49,20 @@ fn own_turn(t: usize) -> Turn
     }
 }
 
-// The move that a sweep tries at turn t, in a mesh with n numbers of channels: none where nobody
-// could follow, since the turn's channel is free.
-pub fn turn_at(words: &[u16], n: usize, t: usize) -> Option<Turn>
-    requires words_len { length words.now ≡ n + n + n }
-    requires t_bound { t < 384 + n }
-    requires n_bound { n < 65536 }
-    requires owner_bound { owner_of (sections n words.now) (t - 384) < 257 }
-    ensures made { IfSome result (λ v. Makes v (turn 64 n words.now t)) }
-    ensures free { IfNone result ((384 ≤ t) × (owner_of (sections n words.now) (t - 384) ≡ 0)) }
+// The move that a sweep tries at turn t: none where nobody could follow, since the turn's channel is
+// free.
+pub fn turn_at(words: Words<'_>, t: usize) -> Option<Turn>
+    requires t_bound { t < 384 + words.n }
+    requires n_bound { words.n < 65536 }
+    requires owner_bound { owner_of (seen words) (t - 384) < 257 }
+    ensures made { IfSome result (λ v. Makes v (turn 64 words.entry.n words.entry.words.now t)) }
+    ensures free { IfNone result ((384 ≤ t) × (owner_of (seen words.entry) (t - 384) ≡ 0)) }
 {
     if t < OWN_TURNS * RECORDS {
         return Some(own_turn(t));
     }
     let channel = (t - OWN_TURNS * RECORDS) as u16;
-    let holder = owner_of(words, n, channel).checked_sub(1)?;
+    let holder = words.owner(channel).checked_sub(1)?;
     Some(Turn {
         packet: holder as u8,
         step: Step::Follow(channel),

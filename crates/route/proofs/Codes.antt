@@ -1,7 +1,7 @@
 -- What the code's numbers of directions, turns and rules stand for: computed at each number. Assumes nothing.
 use Prim.Native.Nat.{ℕ, zero, suc, ◌+◌, ◌*◌, ◌/◌, ◌%◌, ◌^◌, ◌<◌}
 use mathlib.Core.Path.{◌≡◌, refl, sym, subst}
-use mathlib.Core.Bool.{Bool, beq, true, false}
+use mathlib.Core.Bool.{Bool, true, false}
 use mathlib.Core.List.{[], ◌∷◌}
 use native.Mathlib.Nat.{zero-add}
 use native.Mathlib.Omega.{arith}
@@ -12,11 +12,11 @@ use Rattle.route.specs.contracts.directions.Direction.{the_type}
 use Rattle.route.specs.declared.directions.Direction.{Direction}
 use Rattle.route.specs.declared.directions.Direction.TheVariants.{West, East, South, North}
 use Rattle.route.specs.Grid.{horiz, vert, Dir, go}
-use Rattle.route.specs.Turns.{Parity, even, odd, parity_at, Turn, Table, going, allowed, bit}
+use Rattle.route.specs.Turns.{parity_at, Turn, going, allowed, bit}
 use Rattle.route.specs.Numbers.{number, dir_of, facing}
 use Rattle.route.specs.Check.{bends}
 use Rattle.route.specs.Coded.{turned, bits}
-use Rattle.route.proofs.Every.{dirs, AllT, turns, four}
+use Rattle.route.proofs.Every.{dirs, turns, four}
 
 -- ---- turns
 -- on one axis straight on is allowed, and back is not; `sameb` is the code's `==`
@@ -61,24 +61,3 @@ number_of_dir = four (λ d. number (dir_of d) ≡ d) (refl, refl, refl, refl)
 -- the code's four directions, in their order
 pub each_way : (d : Direction) (k : ℕ) → k < 4 → facing (get_or (West ∷ East ∷ South ∷ North ∷ []) k d) ≡ dir_of k
 each_way d = four (λ k. facing (get_or (West ∷ East ∷ South ∷ North ∷ []) k d) ≡ dir_of k) (refl, refl, refl, refl)
-
--- ---- rules
--- each rule is the table of its word
-same_test : (a b : Bool) → T (beq a b) → a ≡ b
-same_test true true h = refl
-same_test true false h = absurd h
-same_test false true h = absurd h
-same_test false false h = refl
-
-abbrev pub Alike : Table → Table → Type 0
-Alike f g = AllT (λ t. T (beq (f even t) (g even t)) × T (beq (f odd t) (g odd t)))
-
-pub tables_alike : (f g : Table) → Alike f g → f ≡ g
-tables_alike f g h = λ i p t. at p t i
-  where
-    both : (t : Turn) → T (beq (f even t) (g even t)) × T (beq (f odd t) (g odd t))
-    both = turns (λ t. T (beq (f even t) (g even t)) × T (beq (f odd t) (g odd t))) h
-
-    at : (p : Parity) (t : Turn) → f p t ≡ g p t
-    at even t = same_test (f even t) (g even t) (both t).0
-    at odd t = same_test (f odd t) (g odd t) (both t).1

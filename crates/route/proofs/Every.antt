@@ -1,5 +1,5 @@
 -- A statement at every direction, turn and rule, and at every number below 4, from a tuple of its cases. Assumes nothing.
-use Prim.Native.Nat.{ℕ, zero, suc, ◌/◌, ◌<◌}
+use Prim.Native.Nat.{ℕ, zero, suc, ◌<◌}
 use mathlib.Core.Path.{◌≡◌, refl}
 use native.Mathlib.Omega.{arith}
 use Rattle.route.specs.Grid.{horiz, vert, Sense, less, more, Dir, go, west, east, south, north}
@@ -57,37 +57,6 @@ four P h (suc zero) i = h.1
 four P h (suc (suc zero)) i = h.2
 four P h (suc (suc (suc zero))) i = h.3
 four P h (suc (suc (suc (suc k)))) i = absurd (omega arith)
-
-pub four_four : (P : ℕ → ℕ → Type 0) → All4 (λ a. All4 (P a)) → (a d : ℕ) → a < 4 → d < 4 → P a d
-four_four P h a d i j = four (P a) (four (λ a. All4 (P a)) h a i) d j
-
--- two directions along one axis, by their numbers; and along two
-pub one_axis : (P : ℕ → ℕ → Type 0) → (P 0 0 × P 0 1 × P 1 0 × P 1 1) × (P 2 2 × P 2 3 × P 3 2 × P 3 3) → (a d : ℕ) → a < 4 → d < 4 → a / 2 ≡ d / 2 → P a d
-one_axis P h =
-    four_four (λ a d. a / 2 ≡ d / 2 → P a d) (
-      (λ e. h.0.0, λ e. h.0.1, λ e. absurd (omega arith), λ e. absurd (omega arith)),
-      (λ e. h.0.2, λ e. h.0.3, λ e. absurd (omega arith), λ e. absurd (omega arith)),
-      (λ e. absurd (omega arith), λ e. absurd (omega arith), λ e. h.1.0, λ e. h.1.1),
-      (λ e. absurd (omega arith), λ e. absurd (omega arith), λ e. h.1.2, λ e. h.1.3),
-    )
-
-pub two_axes :
-    (P : ℕ → ℕ → Type 0) → (P 0 2 × P 0 3 × P 1 2 × P 1 3) × (P 2 0 × P 2 1 × P 3 0 × P 3 1) → (a d : ℕ) → a < 4 → d < 4 → (a / 2 ≡ d / 2 → ⊥) → P a d
-two_axes P h =
-    four_four (λ a d. (a / 2 ≡ d / 2 → ⊥) → P a d) (
-      (λ e. absurd (e refl), λ e. absurd (e refl), λ e. h.0.0, λ e. h.0.1),
-      (λ e. absurd (e refl), λ e. absurd (e refl), λ e. h.0.2, λ e. h.0.3),
-      (λ e. h.1.0, λ e. h.1.1, λ e. absurd (e refl), λ e. absurd (e refl)),
-      (λ e. h.1.2, λ e. h.1.3, λ e. absurd (e refl), λ e. absurd (e refl)),
-    )
-
--- what holds whichever of the four a number is
-pub at_four : {P : Type 0} (k : ℕ) → k < 4 → (k ≡ 0 → P) → (k ≡ 1 → P) → (k ≡ 2 → P) → (k ≡ 3 → P) → P
-at_four zero i f g h j = f refl
-at_four (suc zero) i f g h j = g refl
-at_four (suc (suc zero)) i f g h j = h refl
-at_four (suc (suc (suc zero))) i f g h j = j refl
-at_four (suc (suc (suc (suc k)))) i f g h j = absurd (omega arith)
 
 -- directions with one number are one
 pub number_apart : (d e : Dir) → number d ≡ number e → d ≡ e

@@ -1,14 +1,14 @@
 -- The house numbers: by the frame of a place, as the code has them; bounded, by their formulas. Assumes nothing.
-use Prim.Native.Nat.{ℕ, zero, suc, ◌+◌, ◌≤◌, ◌<◌}
+use Prim.Native.Nat.{ℕ, zero, suc, ◌+◌, ◌<◌}
 use mathlib.Core.Path.{◌≡◌, refl, sym, ◌∙◌}
 use mathlib.Core.Bool.{true, false}
-use mathlib.Core.List.{List, [], ◌∷◌, ◌++◌, append-nil}
+use mathlib.Core.List.{List, [], ◌∷◌, ◌++◌}
 use native.Mathlib.Numerals.{add-one}
 use native.Mathlib.Nat.{add-zero}
 use native.Mathlib.Omega.{arith}
-use lib.ListN.{length, get_or, set, drop, drop_of_length-le, length-append}
+use lib.ListN.{length, get_or, set, drop, length-append}
 use lib.Seq.{drop-cons, set_at, append_snoc}
-use Rattle.route.specs.declared.formulas.Frame.{Frame}
+use Rattle.route.specs.declared.frames.Frame.{Frame}
 use Rattle.route.specs.declared.meshes.Mesh.{Mesh as Coded}
 use Rattle.route.specs.declared.places.Place.{Place}
 use Rattle.route.specs.Grid.{Dir}
@@ -16,13 +16,12 @@ use Rattle.route.specs.Turns.{Rule}
 use Rattle.route.specs.Mesh.{Mesh}
 use Rattle.route.specs.Channels.{start, way, is_channel}
 use Rattle.route.specs.House.{house, house_of, upto}
-use Rattle.route.specs.Coded.{meant, framed, in_frame}
+use Rattle.route.specs.Coded.{meant, Surrounds, in_frame}
 
 -- ---- a channel's number
-
-pub in_house : (k : Rule) (m : Coded) (n : Place) (d : Dir) {f : Frame} {r : ℕ} → f ≡ framed m n → r ≡ in_frame k f d → r ≡ house k (meant m) n d
+pub in_house : (k : Rule) (m : Coded) (n : Place) (d : Dir) (f : Frame) {r : ℕ} → Surrounds f m n → r ≡ in_frame k f d → r ≡ house k (meant m) n d
 unfolding house
-in_house k m n d hf hr = hr ∙ rw (hf, add-zero) refl
+in_house k m n d f s hr = hr ∙ rw (s.columns, s.rows, s.c, s.u, s.r, s.d, add-zero) refl
 
 -- by the number of the channel
 pub no_word : (k : Rule) (m : Mesh) (i : ℕ) → is_channel m i ≡ false → 0 ≡ house_of k m i
@@ -46,9 +45,3 @@ module _ (f : ℕ → ℕ) (i : ℕ) (was list : List ℕ) (filled : list ≡ up
       let g : i < length was = omega arith in
       rw (filled, e, drop-cons was i 0 g, set_at (upto f i) (get_or was i 0) (drop (suc i) was) (f i) i (length_upto f i), add-one)
       (sym (append_snoc (upto f i) (f i) (drop (suc i) was)))
-
-  pub filled_all : (n : ℕ) → length was ≡ n → i ≤ length was → length list ≤ i → list ≡ upto f n
-  filled_all n e h g =
-      let l : length was ≤ i = omega arith in
-      let q : i ≡ n = omega arith in
-      rw (filled, drop_of_length-le was l, append-nil, q) refl

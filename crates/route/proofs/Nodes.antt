@@ -1,18 +1,18 @@
 -- The places of nodes and channels, and back: by the laws of quotient and remainder. Assumes nothing.
 use Prim.Native.Nat.{ℕ, zero, suc, ◌*◌, ◌/◌, ◌%◌, ◌≤◌, ◌<◌}
-use mathlib.Core.Path.{◌≡◌, refl, ◌∙◌}
+use mathlib.Core.Path.{◌≡◌, refl}
 use mathlib.Core.Bool.{Bool, true, false, ◌&&◌, ◌||◌}
-use native.Mathlib.Nat.{mod-lt, div-lt_iff_lt-mul, div-add-mod, mul-le-mul_left, mul-le-mul}
+use native.Mathlib.Nat.{mod-lt, div-lt_iff_lt-mul, div-add-mod, mul-le-mul}
 use native.Mathlib.Omega.{arith}
 use mir.Facts.{and_yes}
 use lib.Arith.{digits_lt, digits_div, digits_mod}
 use lib.Dec.{T, ltb, leb, eqb, ltb→lt, eqb→eq}
 use borrow.Author.Tests.{leb-false, lt-ltb}
 use Rattle.route.specs.declared.places.Place.{Place}
-use Rattle.route.specs.Grid.{horiz, vert, less, more, Dir, go, at, coord, hop}
+use Rattle.route.specs.Grid.{horiz, vert, less, more, Dir, go, coord, hop}
 use Rattle.route.specs.Turns.{going}
-use Rattle.route.specs.Mesh.{Mesh, Inside, exists, turn, ruled}
-use Rattle.route.specs.Numbers.{node, place_of, number, rule_of, channels}
+use Rattle.route.specs.Mesh.{Mesh, Inside, exists, turn}
+use Rattle.route.specs.Numbers.{node, place_of, number, channels}
 use Rattle.route.specs.Served.{bad_mesh}
 use Rattle.route.specs.Paths.{same_place}
 use Rattle.route.specs.Channels.{channel, start, way, far, is_channel, in_turn}
@@ -50,14 +50,6 @@ place_inside m k h =
     positive : (C R : ℕ) → k < C * R → 0 < C
     positive zero R i = absurd (omega arith)
     positive (suc C) R i = omega arith
-
--- a place by what its coordinates are
-pub place_is : (C k : ℕ) {p : Place} {c r : ℕ} → p ≡ at c r → c ≡ k % C → r ≡ k / C → p ≡ place_of C k
-place_is C k hp hc hr = hp ∙ rw (hc, hr) refl
-
--- the place of a node is inside the mesh
-pub inside_of : (C R rule node : ℕ) {m : Mesh} {p : Place} → m ≡ ruled (rule_of rule) C R 0 → p ≡ place_of C node → node < C * R → Inside m p
-inside_of C R rule node hm hp i = rw (hm, hp) (place_inside (ruled (rule_of rule) C R 0) node i)
 
 pub node_below : (m : Mesh) (n : Place) → Inside m n → node m.columns n < m.columns * m.rows
 node_below m n i = omega (arith, digits_lt i.1 i.0)
@@ -134,18 +126,6 @@ joined m i o h =
 -- ---- sizes
 pub bytes_fit : (a b : ℕ) → a ≤ 255 → b ≤ 255 → a * b ≤ 65025
 bytes_fit a b h i = mul-le-mul h i
-
--- a channel's number has the size that the code asks for, whatever the sides
-pub number_low : (C R k : ℕ) → R ≤ 255 → k < channels C R → (0 < C) × (k < 1024 * C)
-number_low C R k h i = let f = mul-le-mul_left C h in (positive C i, omega arith)
-  where
-    positive : (c : ℕ) → k < 4 * (c * R) → 0 < c
-    positive zero j = absurd (omega arith)
-    positive (suc c) j = omega arith
-
--- in a mesh with room a channel's number has the size that the code asks for
-pub number_high : (C R k : ℕ) → R ≤ 64 → k < channels C R → k < 1024 * C
-number_high C R k h i = omega (arith, mul-le-mul_left C h)
 
 pub words_fit : (C R : ℕ) → C ≤ 64 → R ≤ 64 → channels C R ≤ 16384
 words_fit C R h i = omega (arith, mul-le-mul h i)

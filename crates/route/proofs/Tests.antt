@@ -1,10 +1,10 @@
 -- Laws of tests: each by the cases of its Booleans. Assumes nothing.
 use Prim.Native.Nat.{ℕ, ◌≤◌, ◌<◌}
 use mathlib.Core.Path.{◌≡◌, refl, sym, subst, ◌∙◌}
-use mathlib.Core.Bool.{Bool, true, false, ◌||◌, not}
+use mathlib.Core.Bool.{Bool, true, false, ◌||◌}
 use mathlib.Core.Logic.{◌↔◌}
 use lib.Dec.{T, leb}
-use borrow.Author.Tests.{not-true, not-false, le-leb, lt-leb}
+use borrow.Author.Tests.{le-leb, lt-leb}
 
 pub or_l : (a b : Bool) → T a → T (a || b)
 or_l true b t = tt
@@ -45,12 +45,6 @@ leb_is {r = true} {a} {b} f g = sym (le-leb a b (f refl))
 leb_is {r = false} {a} {b} f g = sym (lt-leb a b (g refl))
 
 -- ---- what a branch has taught of a test that a callee made
-pub no_if_not : {r x : Bool} → r ≡ x → not r ≡ true → x ≡ false
-no_if_not {r} e h = rw (sym e) (not-true r h)
-
-pub yes_if_not : {r x : Bool} → r ≡ x → not r ≡ false → x ≡ true
-yes_if_not {r} e h = rw (sym e) (not-false r h)
-
 pub no_if : {r x : Bool} → r ≡ x → r ≡ false → x ≡ false
 no_if e h = sym e ∙ h
 

@@ -5,7 +5,7 @@ use mathlib.Core.Bool.{Bool, true, false, ◌||◌}
 use native.Mathlib.Nat.{mul-le-mul_left}
 use native.Mathlib.Omega.{arith}
 use lib.Dec.{ltb, eqb}
-use borrow.Author.Tests.{ltb-false, eqb-true, eq-eqb, ne_eqb}
+use borrow.Author.Tests.{ltb-false, eqb-true}
 use Rattle.route.specs.Grid.{pick}
 use Rattle.route.specs.Numbers.{channels}
 use Rattle.route.specs.declared.refusals.Refusal.{Refusal}
@@ -48,16 +48,6 @@ pub record Served (C R rule : ℕ) : Type 0 where
   pub rule_known : rule < 5
   pub nodes_high : C * R ≤ C * 16
 
-module _ (C R rule : ℕ) {x y : Bool} (hx : x ≡ off_side C) (hy : y ≡ off_side R) where
-  pub bad_side : x || y ≡ true → 1 ≡ bad_mesh C R rule
-  bad_side h = rw (rw (hx, hy) at h) refl
-
-  pub bad_rule : x || y ≡ false → ltb 4 rule ≡ true → 2 ≡ bad_mesh C R rule
-  bad_rule h i = rw (rw (hx, hy) at h, i) refl
-
-  pub good_mesh : x || y ≡ false → ltb 4 rule ≡ false → 0 ≡ bad_mesh C R rule
-  good_mesh h i = rw (rw (hx, hy) at h, i) refl
-
 side_served : (length : ℕ) → off_side length ≡ false → (2 ≤ length) × (length ≤ 16)
 side_served length h = let b = neither h in (ltb-false length 2 b.0, ltb-false 16 length b.1)
 
@@ -80,17 +70,6 @@ served C R rule hk h = at (off_side C || off_side R) (ltb 4 rule) refl refl (sym
           rule_known = omega (arith, ltb-false 4 rule q);
           nodes_high = mul-le-mul_left C r.1;
         }
-
--- ---- a list
-module _ (C R rule length : ℕ) {k : ℕ} (hk : k ≡ bad_mesh C R rule) where
-  pub bad_first : (k ≡ 0 → ⊥) → k ≡ bad_list C R rule length
-  bad_first h = rw (sym hk) (sym (refuses (λ i. i) _ k h))
-
-  pub bad_length : k ≡ 0 → (length ≡ channels C R → ⊥) → 7 ≡ bad_list C R rule length
-  bad_length z h = rw (sym hk ∙ z, ne_eqb length (channels C R) h) refl
-
-  pub good_list : k ≡ 0 → length ≡ channels C R → 0 ≡ bad_list C R rule length
-  good_list z h = rw (sym hk ∙ z, eq-eqb length (channels C R) h) refl
 
 -- what no refusal of a list has taught
 pub list_served : (C R rule length : ℕ) {k : ℕ} → k ≡ bad_list C R rule length → k ≡ 0 → Served C R rule × (length ≡ channels C R)

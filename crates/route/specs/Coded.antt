@@ -1,6 +1,6 @@
 -- What the code's own values stand for: cited by the contracts of its inner functions. No call's promise rests on it. Assumes nothing.
 use Rattle.std.specs.Prelude.{ℕ, ◌+◌, ◌-◌, ◌/◌, ◌%◌, ◌^◌, ◌≤◌, ◌<◌, ◌≡◌, true, eqb}
-use Rattle.route.specs.declared.formulas.Frame.{Frame}
+use Rattle.route.specs.declared.frames.Frame.{Frame}
 use Rattle.route.specs.declared.meshes.Mesh.{Mesh as Coded}
 use Rattle.route.specs.declared.places.Place.{Place}
 use Rattle.route.specs.Grid.{horiz, vert, Dir, go, coord}
@@ -33,26 +33,14 @@ pub record Ends (m : Mesh) (i : ℕ) (n : Place) : Type 0 where
   pub known : is_channel m i ≡ true
   pub ends : n ≡ far m.columns i
 
--- what lies around a place
-abbrev pub framed : Coded → Place → Frame
-framed m n =
-    record {
-      columns = m.columns;
-      rows = m.rows;
-      c = coord horiz n;
-      u = m.columns - 1 - coord horiz n;
-      r = coord vert n;
-      d = m.rows - 1 - coord vert n;
-    }
-
--- in a frame of a mesh with room
-pub record Framed (f : Frame) : Type 0 where
-  pub columns_high : f.columns ≤ 64
-  pub rows_high : f.rows ≤ 64
-  pub west : f.c < f.columns
-  pub east : f.u < f.columns
-  pub south : f.r < f.rows
-  pub north : f.d < f.rows
+-- a frame says what lies around a place
+pub record Surrounds (f : Frame) (m : Coded) (n : Place) : Type 0 where
+  pub columns : f.columns ≡ m.columns
+  pub rows : f.rows ≡ m.rows
+  pub c : f.c ≡ coord horiz n
+  pub u : f.u ≡ m.columns - 1 - coord horiz n
+  pub r : f.r ≡ coord vert n
+  pub d : f.d ≡ m.rows - 1 - coord vert n
 
 -- the house number of the channel that leaves a frame's place by a direction
 abbrev pub in_frame : Rule → Frame → Dir → ℕ

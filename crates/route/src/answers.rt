@@ -13,7 +13,7 @@ use crate::directions::{Arrival, Direction};
 use crate::meshes::Mesh;
 use crate::places::{Column, Place};
 
-// The set at the destination.
+// The set at the destination. Sets are bits of a number, as C has them.
 const DELIVER: u8 = 16;
 
 // What leads from a place to a destination: `h` along the row, `v` along the column; `dx` columns and

@@ -4,11 +4,11 @@ ghost use Rattle.std.specs.Prelude.{◌≡◌, ◌<◌, length, unwrap_or, IfSom
 ghost use Rattle.route.specs.Channels.{channel};
 ghost use Rattle.route.specs.Numbers.{channels, facing};
 ghost use Rattle.route.specs.Check.{falls, first_after, first_pair, checked, pair_of, checked_of};
-ghost use Rattle.route.specs.Coded.{meant, Roomy, Ends};
+ghost use Rattle.route.specs.Coded.{meant, Ends};
 
 use crate::channels::{Channel, channel_of};
 use crate::directions::{Arrival, Direction};
-use crate::meshes::{Mesh, mesh_of};
+use crate::numberings::Numbering;
 use crate::plans::Plan;
 use crate::refusals::Refusal;
 
@@ -57,63 +57,64 @@ impl From<Result<Option<Fall>, Refusal>> for Checked {
     }
 }
 
-// From a channel to one that leaves its end: is that an allowed turn by 90 degrees at which the numbers
-// do not rise?
-fn falls(m: Mesh, list: &[u16], incoming: u16, out: Channel) -> bool
-    requires roomy { Roomy m }
-    requires list_len { length list.now ≡ channels m.columns m.rows }
-    requires ends { Ends (meant m) incoming out.start }
-    ensures { result ≡ falls (meant m) list.now incoming (channel m.columns out.start (facing out.way)) }
-{
-    let way = Direction::of_channel(incoming);
-    if !way.bends(out.way) {
-        return false;
-    }
-    if !m.exists(out.start, out.way) {
-        return false;
-    }
-    if !m.turn_ok(out.start.column, Arrival::Going(way), out.way) {
-        return false;
-    }
-    let before = list[incoming as usize];
-    let after = list[out.number(m.columns) as usize];
-    after <= before
-}
-
-// The first channel to which the numbers do not rise from this one.
-fn first_after(m: Mesh, list: &[u16], incoming: u16) -> Option<u16>
-    requires roomy { Roomy m }
-    requires list_len { length list.now ≡ channels m.columns m.rows }
-    requires incoming_bound { incoming < channels m.columns m.rows }
-    ensures bound { IfSome result (λ o. o < channels m.columns m.rows) }
-    ensures first { unwrap_or result (channels m.columns m.rows) ≡ first_after (meant m) list.now incoming }
-{
-    let from = channel_of(m.columns, incoming);
-    if !m.exists(from.start, from.way) {
-        return None;
-    }
-    let start = m.hop(from.start, from.way);
-    for way in Direction::ALL {
-        let out = Channel { start, way };
-        if falls(m, list, incoming, out) {
-            return Some(out.number(m.columns));
+impl Numbering {
+    // From a channel to one that leaves its end: is that an allowed turn by 90 degrees at which the
+    // numbers do not rise?
+    fn falls(self, list: &[u16], incoming: u16, out: Channel) -> bool
+        requires list_len { length list.now ≡ channels self.mesh.columns self.mesh.rows }
+        requires ends { Ends (meant self.mesh) incoming out.start }
+        ensures { result ≡ falls (meant self.mesh) list.now incoming (channel self.mesh.columns out.start (facing out.way)) }
+    {
+        let m = self.mesh;
+        let way = Direction::of_channel(incoming);
+        if !way.bends(out.way) {
+            return false;
         }
-    }
-    None
-}
-
-// The first pair of channels at which the numbers do not rise.
-fn first_pair(m: Mesh, list: &[u16]) -> Option<Fall>
-    requires roomy { Roomy m }
-    requires list_len { length list.now ≡ channels m.columns m.rows }
-    ensures { pair_of result ≡ first_pair (meant m) list.now }
-{
-    for incoming in 0..list.len() as u16 {
-        if let Some(outgoing) = first_after(m, list, incoming) {
-            return Some(Fall { incoming, outgoing });
+        if !m.exists(out.start, out.way) {
+            return false;
         }
+        if !m.turn_ok(out.start.column, Arrival::Going(way), out.way) {
+            return false;
+        }
+        let before = list[incoming as usize];
+        let after = list[out.number(m.columns) as usize];
+        after <= before
     }
-    None
+
+    // The first channel to which the numbers do not rise from this one.
+    fn first_after(self, list: &[u16], incoming: u16) -> Option<u16>
+        requires list_len { length list.now ≡ channels self.mesh.columns self.mesh.rows }
+        requires incoming_bound { incoming < channels self.mesh.columns self.mesh.rows }
+        ensures bound { IfSome result (λ o. o < channels self.mesh.columns self.mesh.rows) }
+        ensures first { unwrap_or result (channels self.mesh.columns self.mesh.rows) ≡ first_after (meant self.mesh) list.now incoming }
+    {
+        let m = self.mesh;
+        let from = channel_of(m.columns, incoming);
+        if !m.exists(from.start, from.way) {
+            return None;
+        }
+        let start = m.hop(from.start, from.way);
+        for way in Direction::ALL {
+            let out = Channel { start, way };
+            if self.falls(list, incoming, out) {
+                return Some(out.number(m.columns));
+            }
+        }
+        None
+    }
+
+    // The first pair of channels at which the numbers do not rise.
+    fn first_pair(self, list: &[u16]) -> Option<Fall>
+        requires { length list.now ≡ channels self.mesh.columns self.mesh.rows }
+        ensures { pair_of result ≡ first_pair (meant self.mesh) list.now }
+    {
+        for incoming in 0..list.len() as u16 {
+            if let Some(outgoing) = self.first_after(list, incoming) {
+                return Some(Fall { incoming, outgoing });
+            }
+        }
+        None
+    }
 }
 
 /// Looks whether a list, whoever made it, rises at every turn by 90 degrees that the rule allows, and
@@ -121,6 +122,6 @@ fn first_pair(m: Mesh, list: &[u16]) -> Option<Fall>
 pub fn mesh_check(plan: Plan, list: &[u16]) -> Result<Option<Fall>, Refusal>
     ensures { checked_of result ≡ checked plan.columns plan.rows plan.rule list.now }
 {
-    let rule = plan.list_rule(list.len())?;
-    Ok(first_pair(mesh_of(plan.columns, plan.rows, rule), list))
+    let numbering = plan.numbering(list.len())?;
+    Ok(numbering.first_pair(list))
 }

@@ -13,6 +13,7 @@ mod channels;
 mod checks;
 mod directions;
 mod formulas;
+mod frames;
 mod meshes;
 mod numberings;
 mod places;

@@ -1,38 +1,75 @@
 // The numbering call: the house number of every channel, in a lent list.
 ghost use Rattle.std.specs.Prelude.{◌≡◌, ◌<◌, length};
-ghost use Rattle.route.specs.Numbers.{channels, published};
+ghost use Rattle.route.specs.Mesh.{Inside};
+ghost use Rattle.route.specs.Numbers.{channels, facing, published};
 ghost use Rattle.route.specs.Served.{refusal_of};
-ghost use Rattle.route.specs.House.{house_of, numbering, numbered};
-ghost use Rattle.route.specs.Coded.{meant, Roomy};
+ghost use Rattle.route.specs.House.{house, house_of, numbering, numbered};
+ghost use Rattle.route.specs.Coded.{meant, Roomy, Surrounds};
 
 use crate::channels::channel_of;
-use crate::formulas::house_number;
-use crate::meshes::{Mesh, mesh_of};
+use crate::directions::Direction;
+use crate::frames::Frame;
+use crate::meshes::Mesh;
+use crate::places::Place;
 use crate::plans::Plan;
 use crate::refusals::Refusal;
 use crate::rules::Rule;
 
-// The house number of a channel, by the channel's number; 0 where there is no channel.
-fn word_of(m: Mesh, rule: Rule, number: u16) -> u16
-    requires roomy { Roomy m }
-    requires number_bound { number < channels m.columns m.rows }
-    ensures { result ≡ house_of (published rule) (meant m) number }
-{
-    let c = channel_of(m.columns, number);
-    if !m.exists(c.start, c.way) {
-        return 0;
-    }
-    house_number(m, rule, c.start, c.way)
+/// What a numbering is of: a mesh that has room for every number in a word of 16 bits, and its rule.
+#[derive(Clone, Copy)]
+pub struct Numbering {
+    pub mesh: Mesh,
+    pub rule: Rule,
+    pub ghost roomy: { Roomy mesh },
 }
 
-// Fills a list, a word for each number of a channel.
-fn fill(m: Mesh, rule: Rule, list: &mut [u16])
-    requires roomy { Roomy m }
-    requires list_len { length list.old ≡ channels m.columns m.rows }
-    ensures { list.new ≡ numbering (published rule) (meant m) }
-{
-    for (number, word) in list.iter_mut().enumerate() {
-        *word = word_of(m, rule, number as u16);
+impl Numbering {
+    // What lies around a place.
+    fn frame_of(self, here: Place) -> Frame
+        requires { Inside (meant self.mesh) here }
+        ensures { Surrounds result self.mesh here }
+    {
+        let m = self.mesh;
+        let east = m.columns - 1 - here.column.0;
+        let north = m.rows - 1 - here.row.0;
+        Frame {
+            columns: m.columns as u16,
+            rows: m.rows as u16,
+            c: here.column.0 as u16,
+            u: east as u16,
+            r: here.row.0 as u16,
+            d: north as u16,
+        }
+    }
+
+    // The house number of the channel that leaves a place in a direction.
+    fn house(self, here: Place, direction: Direction) -> u16
+        requires { Inside (meant self.mesh) here }
+        ensures { result ≡ house (published self.rule) (meant self.mesh) here (facing direction) }
+    {
+        self.frame_of(here).number(self.rule, direction)
+    }
+
+    // The house number of a channel, by the channel's number; 0 where there is no channel.
+    fn word(self, number: u16) -> u16
+        requires { number < channels self.mesh.columns self.mesh.rows }
+        ensures { result ≡ house_of (published self.rule) (meant self.mesh) number }
+    {
+        let c = channel_of(self.mesh.columns, number);
+        if !self.mesh.exists(c.start, c.way) {
+            return 0;
+        }
+        self.house(c.start, c.way)
+    }
+
+    // Fills a list, a word for each number of a channel.
+    fn fill(self, list: &mut [u16])
+        requires { length list.old ≡ channels self.mesh.columns self.mesh.rows }
+        ensures { list.new ≡ numbering (published self.rule) (meant self.mesh) }
+    {
+        for (number, word) in list.iter_mut().enumerate() {
+            *word = self.word(number as u16);
+        }
     }
 }
 
@@ -42,7 +79,7 @@ pub fn mesh_number(plan: Plan, list: &mut [u16]) -> Result<(), Refusal>
     ensures { record { refusal = refusal_of result; list = list.new }
         ≡ numbered plan.columns plan.rows plan.rule list.old }
 {
-    let rule = plan.list_rule(list.len())?;
-    fill(mesh_of(plan.columns, plan.rows, rule), rule, list);
+    let numbering = plan.numbering(list.len())?;
+    numbering.fill(list);
     Ok(())
 }

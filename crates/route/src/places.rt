@@ -46,6 +46,8 @@ pub fn place_of(columns: u8, node: u16) -> Place
     at(column, row)
 }
 
+// What follows is said of columns and again of rows: a trait over both would be longer, since only the
+// names of the directions differ.
 impl Column {
     /// The direction that leads to another column: east, or west where that does not lie east.
     pub fn way(self, to: Column) -> Direction

@@ -7,6 +7,7 @@ ghost use Rattle.route.specs.Served.{off_side, bad_mesh, bad_list, refusal_of};
 ghost use Rattle.route.specs.Coded.{meant};
 
 use crate::meshes::{Mesh, mesh_of};
+use crate::numberings::Numbering;
 use crate::refusals::Refusal;
 use crate::rules::Rule;
 
@@ -47,15 +48,17 @@ impl Plan {
         Ok(mesh_of(self.columns, self.rows, rule))
     }
 
-    /// The rule, where a list of so many words is lent for the numbering of a mesh that is served.
-    pub fn list_rule(self, words: usize) -> Result<Rule, Refusal>
+    /// What is numbered, where a list of so many words is lent for a mesh that is served.
+    pub fn numbering(self, words: usize) -> Result<Numbering, Refusal>
         ensures refusal { refusal_of result ≡ bad_list self.columns self.rows self.rule words }
-        ensures rule { IfOk result (λ k. published k ≡ rule_of self.rule) }
+        ensures mesh { IfOk result (λ g. meant g.mesh ≡ ruled (rule_of self.rule) self.columns self.rows 0) }
+        ensures rule { IfOk result (λ g. published g.rule ≡ rule_of self.rule) }
     {
         let rule = self.rule()?;
-        if words != mesh_of(self.columns, self.rows, rule).channels() {
+        let mesh = mesh_of(self.columns, self.rows, rule);
+        if words != mesh.channels() {
             return Err(Refusal::BadSize);
         }
-        Ok(rule)
+        Ok(Numbering { mesh, rule })
     }
 }

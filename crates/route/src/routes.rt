@@ -33,7 +33,8 @@ impl From<Result<u8, Refusal>> for Routed {
 }
 
 /// The outputs at a node for a packet that arrived travelling `arrival`, or starts there, and goes
-/// to another node: exactly the first hops of the shortest paths that the rule allows.
+/// to another node: exactly the first hops of the shortest paths that the rule allows. `arrival` is a
+/// number, as C gives it: the call takes any.
 pub fn mesh_route(plan: Plan, node: u16, arrival: u8, destination: u16) -> Result<u8, Refusal>
     ensures { routed_of result ≡ routed plan.columns plan.rows plan.rule node arrival destination }
 {

@@ -5,11 +5,12 @@ use mathlib.Core.Bool.{Bool, true, false}
 use mathlib.Core.List.{List, [], ◌∷◌, ◌++◌}
 use native.Mathlib.Omega.{arith}
 use lib.Dec.{ltb, leb-suc-suc}
-use lib.ListN.{length, set, length-set}
+use lib.ListN.{length, set}
 use borrow.Author.Tests.{lt-ltb}
 use Rattle.route.specs.Grid.{pick}
 use Rattle.traffic.specs.Calls.{over}
-use Rattle.traffic.specs.Coded.{Page, page, put, puts}
+use Rattle.traffic.specs.declared.pages.Page.{Page}
+use Rattle.traffic.specs.Coded.{turned, put, puts}
 
 -- the page with one byte put on it takes the others
 pub putting : (p : Page) {q : Page} (b : ℕ) (bs : List ℕ) → q ≡ put p b → puts q bs ≡ puts p (b ∷ bs)
@@ -27,24 +28,14 @@ unfolding puts
 puts_append p [] ys = refl
 puts_append p (x ∷ xs) ys = puts_append (put p x) xs ys
 
--- the lent bytes stay as many
-pub length_puts : (p : Page) (bs : List ℕ) → length (puts p bs).bytes ≡ length p.bytes
-unfolding puts
-length_puts p [] = refl
-length_puts p (b ∷ bs) = length_puts (put p b) bs ∙ at (ltb p.end (length p.bytes))
-  where
-    at : (t : Bool) → length (pick t (page (set p.bytes p.end b) (suc p.end)) p).bytes ≡ length p.bytes
-    at true = length-set p.bytes p.end b
-    at false = refl
-
 -- ---- a page with a written byte before it
 abbrev after : ℕ → Page → Page
-after o p = page (o ∷ p.bytes) (suc p.end)
+after o p = turned p (o ∷ p.out.now) (suc p.end)
 
 put_after : (o : ℕ) (p : Page) (b : ℕ) → put (after o p) b ≡ after o (put p b)
-put_after o p b = rw (leb-suc-suc (suc p.end) (length p.bytes)) (at (ltb p.end (length p.bytes)))
+put_after o p b = rw (leb-suc-suc (suc p.end) (length p.out.now)) (at (ltb p.end (length p.out.now)))
   where
-    at : (t : Bool) → pick t (after o (page (set p.bytes p.end b) (suc p.end))) (after o p) ≡ after o (pick t (page (set p.bytes p.end b) (suc p.end)) p)
+    at : (t : Bool) → pick t (after o (turned p (set p.out.now p.end b) (suc p.end))) (after o p) ≡ after o (pick t (turned p (set p.out.now p.end b) (suc p.end)) p)
     at true = refl
     at false = refl
 
@@ -54,9 +45,9 @@ puts_after o p [] = refl
 puts_after o p (b ∷ bs) = ap (λ (q : Page). puts q bs) (put_after o p b) ∙ puts_after o (put p b) bs
 
 -- ---- so bytes that fit stand at the start, and later ones stay
-pub puts_over : (bs out : List ℕ) → length bs ≤ length out → puts (page out 0) bs ≡ page (over bs out) (length bs)
+pub puts_over : (p : Page) (bs out : List ℕ) → length bs ≤ length out → puts (turned p out 0) bs ≡ turned p (over bs out) (length bs)
 unfolding puts
-puts_over [] out h = refl
-puts_over (b ∷ bs) [] h = absurd (omega arith)
-puts_over (b ∷ bs) (o ∷ out) h =
-    rw (lt-ltb 0 (suc (length out)) (omega arith)) (puts_after b (page out 0) bs ∙ ap (after b) (puts_over bs out (omega arith)))
+puts_over p [] out h = refl
+puts_over p (b ∷ bs) [] h = absurd (omega arith)
+puts_over p (b ∷ bs) (o ∷ out) h =
+    rw (lt-ltb 0 (suc (length out)) (omega arith)) (puts_after b (turned p out 0) bs ∙ ap (after b) (puts_over p bs out (omega arith)))

@@ -5,7 +5,7 @@ use mathlib.Core.List.{List, [], ◌∷◌}
 use native.Mathlib.Nat.{sub-zero, suc-sub-suc}
 use native.Mathlib.Numerals.{add-one}
 use native.Mathlib.Omega.{arith}
-use lib.ListN.{length, set, get_or, length-set}
+use lib.ListN.{length, set, get_or}
 use Rattle.wormhole.specs.declared.records.Record.{Record}
 use Rattle.wormhole.specs.Memory.{none}
 use Rattle.traffic.specs.Calls.{filled}
@@ -14,11 +14,6 @@ use Rattle.traffic.specs.Calls.{filled}
 unfoldable pub stored : List Record → List Record → ℕ → List Record
 stored ps rs zero = rs
 stored ps rs (suc i) = set (stored ps rs i) i (get_or ps i none)
-
-pub length_stored : (ps rs : List Record) (n : ℕ) → length (stored ps rs n) ≡ length rs
-unfolding stored
-length_stored ps rs zero = refl
-length_stored ps rs (suc n) = length-set (stored ps rs n) n (get_or ps n none) ∙ length_stored ps rs n
 
 -- one more
 pub stored_more : (ps rs : List Record) (i : ℕ) {ys zs : List Record} {r : Record} → ys ≡ stored ps rs i → r ≡ get_or ps i none → zs ≡ set ys i r → zs ≡ stored ps rs (i + 1)

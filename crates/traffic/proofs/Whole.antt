@@ -7,6 +7,7 @@ use native.Mathlib.Numerals.{add-one}
 use native.Mathlib.Omega.{arith}
 use lib.Dec.{eqb}
 use lib.ListN.{length, get_or, replicate, length-append}
+use Rattle.std.specs.Borrow.{MutBor}
 use Rattle.route.specs.declared.refusals.Refusal.{Refusal}
 use Rattle.route.specs.Grid.{pick}
 use Rattle.route.specs.Mesh.{Mesh, ruled}
@@ -19,12 +20,13 @@ use Rattle.wormhole.specs.Range.{every, words_fit, record_fits}
 use Rattle.wormhole.specs.Calls.{left, fits}
 use Rattle.wormhole.proofs.Every.{both, every_at}
 use Rattle.traffic.specs.declared.lists.Lead.{Lead}
-use Rattle.traffic.specs.Lists.{listed, lead, after_lead, bad_headers, packets, lead_bytes, node_byte, record_bytes, records_bytes, list_of}
-use Rattle.traffic.specs.Calls.{bad_read, told, read, Output, written, over, bad_write, write}
-use Rattle.traffic.specs.Coded.{Page, page, put, puts}
+use Rattle.traffic.specs.Lists.{lead, after_lead, packets, lead_bytes, node_byte, record_bytes, records_bytes, list_of}
+use Rattle.traffic.specs.Calls.{bad_read, told, read, written, over, bad_write, write}
+use Rattle.traffic.specs.declared.pages.Page.{Page}
+use Rattle.traffic.specs.Coded.{page, turned, put, puts}
 use Rattle.traffic.proofs.Heads.{length_packets}
-use Rattle.traffic.proofs.Putting.{putting, put_last, puts_append, length_puts, puts_over}
-use Rattle.traffic.proofs.Refusals.{listing, Readable, readable, Writable, writable}
+use Rattle.traffic.proofs.Putting.{putting, put_last, puts_append, puts_over}
+use Rattle.traffic.proofs.Refusals.{Readable, readable, Writable, writable}
 use Rattle.traffic.proofs.Storing.{stored, stored_all}
 
 -- ---- read
@@ -37,15 +39,6 @@ module _ (bs w : List ℕ) (rs : List Record) where
   module _ (served : 0 ≡ bad_read bs (length w) (length rs)) {g : Mesh} (eg : g ≡ ruled (rule_of (lead bs).rule) (lead bs).columns (lead bs).rows 0) where
     abbrev told_so : Readable bs (length w) (length rs)
     told_so = readable bs (length w) (length rs) served refl
-
-    pub read_long : listed (length bs) ≡ true
-    read_long = told_so.long
-
-    pub read_lead : 2 ≤ length bs
-    read_lead = (listing (length bs) told_so.long).some
-
-    pub read_good : bad_headers g.columns g.rows (after_lead bs) ≡ 0
-    read_good = rw eg told_so.good
 
     few : length (packets (lead bs).columns (after_lead bs)) ≤ length rs
     few = omega (arith, told_so.few, length_packets (lead bs).columns (after_lead bs))
@@ -60,11 +53,6 @@ module _ (C : ℕ) where
   unfoldable pub wrote : Page → List Record → ℕ → Page
   wrote p rs zero = p
   wrote p rs (suc i) = puts (wrote p rs i) (record_bytes C (get_or rs i none))
-
-  pub length_wrote : (p : Page) (rs : List Record) (n : ℕ) → length (wrote p rs n).bytes ≡ length p.bytes
-  unfolding wrote
-  length_wrote p rs zero = refl
-  length_wrote p rs (suc n) = length_puts (wrote p rs n) (record_bytes C (get_or rs n none)) ∙ length_wrote p rs n
 
   -- one more
   pub wrote_more : (p : Page) (rs : List Record) (i : ℕ) {q t : Page} {r : Record} → q ≡ wrote p rs i → r ≡ get_or rs i none → t ≡ puts q (record_bytes C r) → t ≡ wrote p rs (i + 1)
@@ -92,10 +80,6 @@ module _ (C : ℕ) where
       few false = omega arith
 
 -- ---- write
--- what a call leaves whose page this is
-abbrev leaving : ℕ → Page → Output
-leaving k p = record { answer = written k p.end; bytes = p.bytes }
-
 module _ (C R rule : ℕ) (w : List ℕ) (rs : List Record) (out : List ℕ) where
   pub write_refused : (e : Refusal) → code e ≡ bad_write C R rule (length w) (length rs) (length out) (fits C R rule w rs) → record { answer = written (code e) 0; bytes = out } ≡ write C R rule w rs out
   unfolding write
@@ -122,22 +106,28 @@ module _ (C R rule : ℕ) (w : List ℕ) (rs : List Record) (out : List ℕ) whe
     abbrev bs : List ℕ
     bs = list_of C R rule rs
 
-    -- the page once all records are written to it
-    module _ {p q : Page} {i : ℕ} (ep : p ≡ puts (page out 0) (lead_bytes C R rule)) (eq : q ≡ wrote g.columns p rs i) (ei : i ≡ length rs) where
+    -- the page over the lent bytes, once all records are written to it
+    module _ (lent : MutBor (List ℕ)) (el : lent.now ≡ out) {p q : Page} {i : ℕ} (ep : p ≡ puts (page lent) (lead_bytes C R rule)) (eq : q ≡ wrote g.columns p rs i)
+        (ei : i ≡ length rs) where
       short : length bs ≤ 194
       short = omega (arith, few_bytes C rs, room.sizes.few)
 
-      all_written : q ≡ page (over bs out) (length bs)
+      all_written : q ≡ turned (page lent) (over bs out) (length bs)
       all_written =
-          rw eg at eq ∙ rw (ep, ei) (wrote_all C (puts (page out 0) (lead_bytes C R rule)) rs ∙ (sym (puts_append (page out 0) (lead_bytes C R rule) (records_bytes C rs)) ∙ puts_over bs out (omega (arith, short, room.room))))
+          rw eg at eq ∙ rw (ep, ei) (wrote_all C (puts (page lent) (lead_bytes C R rule)) rs ∙ (sym (puts_append (page lent) (lead_bytes C R rule) (records_bytes C rs))
+          ∙ rw (← el) (puts_over (page lent) bs lent.now (rw el (omega (arith, short, room.room))))))
+
+      -- it is over the same lent bytes
+      pub write_lent : lent.ghost_name ≡ q.out.ghost_name
+      write_lent = sym (ap (λ (p : Page). p.out.ghost_name) all_written)
 
       pub write_short : q.end ≤ 194
       write_short = omega (arith, short, ap (λ (p : Page). p.end) all_written)
 
-      pub write_done : leaving 0 q ≡ write C R rule w rs out
+      pub write_done : {n : ℕ} {left : List ℕ} → n ≡ q.end → left ≡ q.out.now → record { answer = written 0 n; bytes = left } ≡ write C R rule w rs out
       unfolding write
-      write_done = rw (sym served, all_written) refl
+      write_done en eb = rw (sym served, en, eb, all_written) refl
 
 -- the lead's two bytes, put one after the other
-pub lead_put : (C R rule : ℕ) (p : Page) {q t : Page} → q ≡ put p ((C - 1) * 16 + (R - 1)) → t ≡ put q (rule * 32) → t ≡ puts p (lead_bytes C R rule)
-lead_put C R rule p {q} eq et = put_last q (rule * 32) et ∙ putting p ((C - 1) * 16 + (R - 1)) (rule * 32 ∷ []) eq
+pub lead_put : (C R rule : ℕ) (p : Page) {o q t : Page} → o ≡ p → q ≡ put o ((C - 1) * 16 + (R - 1)) → t ≡ put q (rule * 32) → t ≡ puts p (lead_bytes C R rule)
+lead_put C R rule p {q = q} eo eq et = put_last q (rule * 32) et ∙ putting p ((C - 1) * 16 + (R - 1)) (rule * 32 ∷ []) (rw eo at eq)

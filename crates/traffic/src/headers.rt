@@ -53,7 +53,8 @@ fn is_outside(m: Mesh, place: Place) -> bool
     (m.columns <= place.column.0) | (m.rows <= place.row.0)
 }
 
-// Can a header's packet be served?
+// Can a header's packet be served? An offer asks the same of two nodes, not of two places, and in the
+// definitions too these are two.
 fn check_header(m: Mesh, h: Header) -> Result<(), Refusal>
     ensures { refusal_of result ≡ bad_header m.columns m.rows h }
 {

@@ -13,6 +13,6 @@ mod writes;
 
 pub use headers::{Header, header_of, packet_at};
 pub use lists::{Lead, lead_of, packets_of, readable};
-pub use pages::{Written, put};
+pub use pages::{Page, Written};
 pub use reads::{Contents, ListRead, mesh_read};
 pub use writes::mesh_write;

@@ -14,7 +14,7 @@ use wormhole::sized;
 /// The greatest number of bytes of a list.
 pub const MOST_BYTES: usize = 194;
 
-/// What a list says of its mesh, and its spare bits.
+/// What a list says of its mesh, and its spare bits: numbers, since any bytes may stand there.
 #[derive(Clone, Copy, Debug, PartialEq, Eq)]
 pub struct Lead {
     pub columns: u8,

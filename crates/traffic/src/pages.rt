@@ -28,13 +28,36 @@ impl From<Result<u16, Refusal>> for Written {
     }
 }
 
-/// Writes a byte at the end, if there is room. Returns where the next one goes.
-pub fn put(out: &mut [u8], end: usize, byte: u8) -> usize
-    ensures { page out.new result ≡ put (page out.old end) byte }
-{
-    if out.len() <= end {
-        return end;
+/// Lent bytes that are written one after another from the start on.
+#[derive(Drop)]
+pub struct Page<'a> {
+    out: &'a mut [u8],
+    end: usize,
+}
+
+impl<'a> Page<'a> {
+    /// A page over lent bytes, of which none is written yet.
+    pub fn new(out: &'a mut [u8]) -> Page<'a>
+        ensures { result ≡ page out.entry }
+    {
+        Page { out, end: 0 }
     }
-    out[end] = byte;
-    end + 1
+
+    /// How many bytes are written.
+    pub fn len(&self) -> usize
+        ensures { result ≡ self.now.end }
+    {
+        self.end
+    }
+
+    /// Writes one byte more, if there is room.
+    pub fn put(&mut self, byte: u8)
+        ensures { self.new ≡ put self.old byte }
+    {
+        if self.out.len() <= self.end {
+            return;
+        }
+        self.out[self.end] = byte;
+        self.end += 1;
+    }
 }

@@ -8,10 +8,10 @@ ghost use Rattle.wormhole.specs.Range.{record_fits};
 ghost use Rattle.wormhole.specs.Calls.{fits};
 ghost use Rattle.traffic.specs.Lists.{node_byte, record_bytes};
 ghost use Rattle.traffic.specs.Calls.{written_of, bad_write, write};
-ghost use Rattle.traffic.specs.Coded.{page, puts};
+ghost use Rattle.traffic.specs.Coded.{puts};
 
 use crate::lists::MOST_BYTES;
-use crate::pages::put;
+use crate::pages::Page;
 use route::{Mesh, Plan, Refusal, place_of};
 use wormhole::{Record, served, sized};
 
@@ -39,19 +39,19 @@ fn node_byte(m: Mesh, node: u16) -> u8
     place.column.0 * 16 + place.row.0
 }
 
-// Writes a record, nothing if it is empty. Returns where the next one goes.
-fn put_record(out: &mut [u8], end: usize, m: Mesh, r: Record) -> usize
+// Writes a record, nothing if it is empty.
+fn put_record(page: &mut Page, m: Mesh, r: Record)
     requires columns_bound { m.columns ≤ 16 }
     requires rows_bound { m.rows ≤ 16 }
     requires fits { record_fits (meant m) r ≡ true }
-    ensures { page out.new result ≡ puts (page out.old end) (record_bytes m.columns r) }
+    ensures { page.new ≡ puts page.old (record_bytes m.columns r) }
 {
     if r.live == 0 {
-        return end;
+        return;
     }
-    let source = put(out, end, node_byte(m, r.source));
-    let destination = put(out, source, node_byte(m, r.destination));
-    put(out, destination, r.flits - 1)
+    page.put(node_byte(m, r.source));
+    page.put(node_byte(m, r.destination));
+    page.put(r.flits - 1);
 }
 
 /// Writes the list of the live records at the start of lent bytes, and answers its length. With a
@@ -66,10 +66,11 @@ pub fn mesh_write(
         ≡ write plan.columns plan.rows plan.rule words.now records.now out.old }
 {
     let m = writable(plan, words, records, out.len())?;
-    let sides = put(out, 0, (plan.columns - 1) * 16 + (plan.rows - 1));
-    let mut end = put(out, sides, plan.rule * 32);
+    let mut page = Page::new(out);
+    page.put((plan.columns - 1) * 16 + (plan.rows - 1));
+    page.put(plan.rule * 32);
     for &r in records {
-        end = put_record(out, end, m, r);
+        put_record(&mut page, m, r);
     }
-    Ok(end as u16)
+    Ok(page.len() as u16)
 }

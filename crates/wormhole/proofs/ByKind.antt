@@ -1,12 +1,12 @@
 -- A move by its kind: which numbers it has, and what it may rely on where no refusal came before it. Assumes nothing.
-use Prim.Native.Nat.{ℕ, ◌+◌, ◌≤◌, ◌<◌}
+use Prim.Native.Nat.{ℕ, ◌+◌, ◌<◌}
 use mathlib.Core.Path.{◌≡◌, refl, sym, ap, subst}
-use mathlib.Core.Bool.{Bool, true, false, ◌&&◌}
+use mathlib.Core.Bool.{Bool, true, ◌&&◌}
 use mathlib.Core.List.{List}
 use native.Mathlib.Omega.{arith}
 use lib.Dec.{T, eqb}
 use lib.ListN.{length, get_or}
-use borrow.Author.Tests.{ne_eqb, eqb-true}
+use borrow.Author.Tests.{eqb-true}
 use Rattle.route.specs.declared.meshes.Mesh.{Mesh as Coded}
 use Rattle.route.specs.Mesh.{Mesh, ruled}
 use Rattle.route.specs.Numbers.{channels, rule_of}
@@ -61,9 +61,6 @@ channel_low m k h = (channel_is (meant m) k (subst T (sym h) tt)).0
 
 -- ---- may it?
 module _ (N : Net) (s : Sections) (i : ℕ) (r : Record) (k d : ℕ) where
-  pub not_live : (kind : ℕ) → (r.live ≡ 1 → ⊥) → false ≡ allowed N s i r kind k d
-  not_live kind h = rw (ne_eqb r.live 1 h) refl
-
   pub allowed_live : (kind : ℕ) → allowed N s i r kind k d ≡ true → r.live ≡ 1
   allowed_live kind e = eqb-true r.live 1 (both (eqb r.live 1) (may N s i r kind k d) e).0
 
@@ -101,9 +98,6 @@ module _ (C R rule : ℕ) (w : List ℕ) (rs : List Record) (served : 0 ≡ bad_
     pub record_served : (i : ℕ) → Fitting m (get_or rs i none)
     unfolding record_fits
     record_served i = record { roomy = roomy_mesh; fits = subst (λ g. record_fits g (get_or rs i none) ≡ true) (sym em) (every_at (record_fits (net C R rule).mesh) none refl rs in_range.1 i) }
-
-    pub few_records : length rs ≤ 64
-    few_records = told.0.few
 
     pub memory_served : Memory m w
     unfolding words_fit

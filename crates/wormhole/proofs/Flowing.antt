@@ -16,7 +16,7 @@ use Rattle.route.specs.Paths.{same_place}
 use Rattle.route.specs.Channels.{far}
 use Rattle.route.specs.Coded.{meant}
 use Rattle.wormhole.specs.declared.records.Record.{Record}
-use Rattle.wormhole.specs.Memory.{depth, Sections, sections, owner_of, holds_of, next_of, hold, drain, fill, none, anew, named}
+use Rattle.wormhole.specs.Memory.{depth, Sections, sections, owner_of, holds_of, next_of, hold, drain, fill, anew, named}
 use Rattle.wormhole.specs.Steps.{stepped, leave, head, goal, room, can_follow, may_follow, follow, may_feed, feed, may_eat, bite, finished, eat}
 use Rattle.wormhole.specs.Coded.{built, laid, Packet, Memory}
 use Rattle.wormhole.proofs.Every.{both}
@@ -101,12 +101,11 @@ module _ (m : Coded) (n : ℕ) (w : List ℕ) (hn : n ≡ channels m.columns m.r
       pub follow_room : (t : Sections) → t ≡ drain (sections n w) k → holds_of t (x - 1) < 65535
       follow_room t e = drained_low (sections n w) t k (x - 1) e follow_open.below
 
-  pub followed : (r q : Record) (k x : ℕ) (v₁ v₂ v₃ : List ℕ) → x ≡ next_of (sections n w) k → sections n v₁ ≡ drain (sections n w) k
-      → sections n v₂ ≡ fill (sections n v₁) (x - 1) → stepped (sections n v₃) q ≡ leave (sections n v₂) r k r.front
-      → stepped (laid m v₃) q ≡ follow s r k
+  pub followed : (r q : Record) (k x : ℕ) (t₁ t₂ : Sections) (v : List ℕ) → x ≡ next_of (sections n w) k → t₁ ≡ drain (sections n w) k
+      → t₂ ≡ fill t₁ (x - 1) → stepped (sections n v) q ≡ leave t₂ r k r.front → stepped (laid m v) q ≡ follow s r k
   unfolding follow
-  followed r q k x v₁ v₂ v₃ ex e₁ e₂ e₃ =
-      let e : stepped (sections n v₃) q ≡ leave (fill (drain (sections n w) k) (next_of (sections n w) k - 1)) r k r.front = rw (e₂, e₁, ex) at e₃ in
+  followed r q k x t₁ t₂ v ex e₁ e₂ e₃ =
+      let e : stepped (sections n v) q ≡ leave (fill (drain (sections n w) k) (next_of (sections n w) k - 1)) r k r.front = rw (e₂, e₁, ex) at e₃ in
       rw hn at e
 
   -- ---- feed
@@ -198,19 +197,11 @@ module _ (m : Coded) (n : ℕ) (w : List ℕ) (hn : n ≡ channels m.columns m.r
       pub eat_small : Packet m r → r.front - 1 < 65535
       eat_small p = let t = tells m r p in omega (arith, t.front_low, t.few)
 
-    pub ate : (q z : Record) (v₁ v₂ : List ℕ) → sections n v₁ ≡ drain (sections n w) (r.front - 1)
-        → stepped (sections n v₂) q ≡ leave (sections n v₁) (bite r) (r.front - 1) r.front → z ≡ finished (bite r) q
-        → stepped (laid m v₂) z ≡ eat s r
+    pub ate : (q z : Record) (t : Sections) (v : List ℕ) → t ≡ drain (sections n w) (r.front - 1)
+        → stepped (sections n v) q ≡ leave t (bite r) (r.front - 1) r.front → z ≡ finished (bite r) q
+        → stepped (laid m v) z ≡ eat s r
     unfolding eat
-    ate q z v₁ v₂ e₁ e₂ ez =
+    ate q z t v e₁ e₂ ez =
         let k = r.front - 1 in
-        let e : stepped (sections n v₂) q ≡ leave (drain (sections n w) k) (bite r) k r.front = rw e₁ at e₂ in
+        let e : stepped (sections n v) q ≡ leave (drain (sections n w) k) (bite r) k r.front = rw e₁ at e₂ in
         rw (ez, sym (rw hn at e)) refl
-
--- ---- the record after an eating
-module _ (r q : Record) where
-  pub eaten_whole : {x : Record} → r.eaten ≡ r.flits → x ≡ none → x ≡ finished r q
-  eaten_whole e ex = rw (eq-eqb r.eaten r.flits e) ex
-
-  pub eaten_part : (r.eaten ≡ r.flits → ⊥) → q ≡ finished r q
-  eaten_part e = rw (ne_eqb r.eaten r.flits e) refl

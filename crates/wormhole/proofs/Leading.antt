@@ -11,12 +11,12 @@ use Rattle.route.specs.declared.meshes.Mesh.{Mesh as Coded}
 use Rattle.route.specs.Grid.{pick, Dir, west, east, south, north, hop}
 use Rattle.route.specs.Turns.{Arrival, local, going}
 use Rattle.route.specs.Mesh.{Mesh, Inside, exists}
-use Rattle.route.specs.Numbers.{node, place_of, channels, number, dir_of}
+use Rattle.route.specs.Numbers.{place_of, channels, dir_of}
 use Rattle.route.specs.Paths.{same_place, answer}
 use Rattle.route.specs.Route.{values, outputs}
-use Rattle.route.specs.Channels.{channel, start, way, far}
+use Rattle.route.specs.Channels.{start, way, far}
 use Rattle.route.specs.Coded.{meant}
-use Rattle.route.proofs.Promises.{start_inside, hop_inside, node_below, channel_below, channel_is, dir_of_number}
+use Rattle.route.proofs.Promises.{start_inside, hop_inside, channel_is}
 use Rattle.wormhole.specs.declared.records.Record.{Record}
 use Rattle.wormhole.specs.Memory.{Sections, sections, owner_of, holds_of, put, link, drain, anew}
 use Rattle.wormhole.specs.Steps.{Stepped, stepped, leave, head, arrival, goal, ready, ahead, onward, may_lead, claim, start as begin, advance, lead}
@@ -140,18 +140,6 @@ in_outputs m n a t d low = go (same_place n t) d low
 pub open_way : (m : Mesh) (r : Record) (o d : ℕ) (a : Arrival) (p q : Place) → p ≡ head m r → a ≡ arrival r → q ≡ goal m r → o ≡ outputs m p a q → d < 4
     → eqb (o / 2 ^ d % 2) 1 ≡ onward m r d
 open_way m r o d a p q ep ea eq eo low = rw (eo, ep, ea, eq) (in_outputs m (head m r) (arrival r) (goal m r) d low)
-
--- ---- the channel ahead
-module _ (m : Coded) (r : Record) (d : Dir) (p : Place) (i : Inside (meant m) p) where
-  pub node_low : Told m r → node m.columns p < 16384
-  node_low t = omega (arith, node_below (meant m) p i, t.few)
-
-  module _ (t : ℕ) (et : t ≡ channel m.columns p d) where
-    pub ahead_is : p ≡ head (meant m) r → t ≡ ahead (meant m) r (number d)
-    ahead_is e = rw e at et ∙ rw (dir_of_number d) refl
-
-    pub ahead_low : t < channels m.columns m.rows
-    ahead_low = rw et (channel_below (meant m) p d i)
 
 -- ---- may it take that channel?
 module _ (m : Coded) (r : Record) (d n : ℕ) (w : List ℕ) (hn : n ≡ channels m.columns m.rows) where

@@ -42,18 +42,18 @@ module _ (n k : ℕ) (w : List ℕ) where
         rw (take-set-le n w (n + n + k) v (omega arith), held, drop-set-add (n + n) w k v) refl
 
 -- ---- what the stores of the code come to
-module _ (s : Sections) (k : ℕ) where
-  pub putting : {s₁ s₂ s₃ : Sections} (o h x : ℕ) → s₁ ≡ own s k o → s₂ ≡ hold s₁ k h → s₃ ≡ link s₂ k x → s₃ ≡ put s k o h x
+module _ (n k : ℕ) (w : List ℕ) (h : k < n) where
+  pub put_at : (o f x : ℕ) → sections n (set (set (set w k o) (n + k) f) (n + n + k) x) ≡ put (sections n w) k o f x
   unfolding put
-  putting o h x e f g = rw (g, f, e) refl
+  put_at o f x = rw (link_at n k (set (set w k o) (n + k) f) x h, hold_at n k (set w k o) f h, own_at n k w o h) refl
 
-  pub draining : {t : Sections} (h : ℕ) → h ≡ holds_of s k → t ≡ hold s k (h - 1) → t ≡ drain s k
+  pub drain_at : sections n (set w (n + k) (get_or w (n + k) 0 - 1)) ≡ drain (sections n w) k
   unfolding drain
-  draining h e f = rw (f, e) refl
+  drain_at = rw (hold_at n k w (get_or w (n + k) 0 - 1) h, holds_at n k w h) refl
 
-  pub filling : {t : Sections} (h : ℕ) → h ≡ holds_of s k → t ≡ hold s k (h + 1) → t ≡ fill s k
+  pub fill_at : sections n (set w (n + k) (get_or w (n + k) 0 + 1)) ≡ fill (sections n w) k
   unfolding fill
-  filling h e f = rw (f, e) refl
+  fill_at = rw (hold_at n k w (get_or w (n + k) 0 + 1) h, holds_at n k w h) refl
 
 -- ---- a list and its sections
 pub rejoined : (n : ℕ) (w : List ℕ) → joined (sections n w) ≡ w

@@ -16,9 +16,11 @@ use Rattle.route.specs.Channels.{is_channel}
 use Rattle.route.specs.Coded.{meant, Roomy}
 use Rattle.route.proofs.Promises.{channel_is, words_fit}
 use Rattle.wormhole.specs.declared.records.Record.{Record}
-use Rattle.wormhole.specs.Memory.{sections, next_of, named}
+use Rattle.wormhole.specs.declared.words.WordsMut.{WordsMut}
+use Rattle.wormhole.specs.Memory.{Sections, sections, next_of, named}
 use Rattle.wormhole.specs.Range.{names, blank, packet_fits, record_fits}
-use Rattle.wormhole.specs.Coded.{Packet, Memory}
+use Rattle.wormhole.specs.Steps.{Stepped, stepped}
+use Rattle.wormhole.specs.Coded.{Packet, Memory, Becomes, Leaves}
 use Rattle.wormhole.proofs.Every.{both, every_at}
 
 -- ---- words that are 0, or 1 + a channel
@@ -88,6 +90,14 @@ unfolding sections
 next_names m w k h l =
     let n = channels m.columns m.rows in
     every_at (names (meant m)) 0 refl (drop (n + n) w) h.nexts k
+
+-- ---- the words that the code lends on, when they are back
+module _ {old new : WordsMut} (n : ℕ) (v : List ℕ) (count : old.n ≡ n) where
+  pub written : {s : Sections} → Becomes old new s → v ≡ new.words.now → sections n v ≡ s
+  written h e = rw (e, ← count, ← h.count) h.sections
+
+  pub moved : {r : Record} {a : Stepped} → Leaves old new r a → v ≡ new.words.now → stepped (sections n v) r ≡ a
+  moved h e = rw (e, ← count, ← h.count) h.step
 
 -- ---- as the code asks for it
 module _ (m : Coded) (r : Record) (p : Packet m r) where

@@ -6,11 +6,13 @@ use Rattle.route.specs.Mesh.{Mesh, ruled}
 use Rattle.route.specs.Numbers.{channels, number, facing}
 use Rattle.route.specs.Coded.{meant, Roomy}
 use Rattle.wormhole.specs.declared.records.Record.{Record}
+use Rattle.wormhole.specs.declared.words.Words.{Words}
+use Rattle.wormhole.specs.declared.words.WordsMut.{WordsMut}
 use Rattle.wormhole.specs.declared.steps.Step.{Step}
 use Rattle.wormhole.specs.declared.steps.Step.TheVariants.{Lead, Follow, Feed, Eat}
 use Rattle.wormhole.specs.Memory.{Net, depth, Sections, sections}
 use Rattle.wormhole.specs.Range.{every, names, record_fits}
-use Rattle.wormhole.specs.Steps.{Stepped, known, may, act}
+use Rattle.wormhole.specs.Steps.{Stepped, stepped, known, may, act}
 use Rattle.wormhole.specs.Calls.{needed, allowed}
 
 -- a mesh of these sides, for questions that no rule bears on
@@ -43,6 +45,27 @@ pub record Packet (m : Coded) (r : Record) : Type 0 where
 pub record Memory (m : Coded) (w : List ℕ) : Type 0 where
   pub long : length w ≡ needed m.columns m.rows
   pub nexts : every (names (meant m)) (laid m w).next ≡ true
+
+-- ---- the lent words as the code has them
+-- the sections that it reads
+abbrev pub seen : Words → Sections
+seen w = sections w.n w.words.now
+
+-- the sections that it writes
+abbrev pub kept : WordsMut → Sections
+kept w = sections w.n w.words.now
+
+-- what was written left these sections, in the same words
+pub record Becomes (old new : WordsMut) (s : Sections) : Type 0 where
+  pub count : new.n ≡ old.n
+  pub reference : new.words.ghost_name ≡ old.words.ghost_name
+  pub sections : kept new ≡ s
+
+-- and this record of the packet
+pub record Leaves (old new : WordsMut) (r : Record) (a : Stepped) : Type 0 where
+  pub count : new.n ≡ old.n
+  pub reference : new.words.ghost_name ≡ old.words.ghost_name
+  pub step : stepped (kept new) r ≡ a
 
 -- ---- a move as the code has it, by the numbers that the rules know it by
 -- its kind

@@ -6,7 +6,7 @@ ghost use Rattle.wormhole.specs.Coded.{Packet, Memory, built, laid};
 use crate::leads::header_of;
 use crate::records::Record;
 use crate::releases::leave;
-use crate::words::{drain, holds_of};
+use crate::words::{Words, WordsMut};
 use route::{Mesh, place_of};
 
 /// May the destination take a flit from the packet's front?
@@ -16,13 +16,14 @@ pub fn may_eat(words: &[u16], m: Mesh, r: Record) -> bool
     ensures { result ≡ may_eat (built m) (laid m words.now) r }
 {
     let n = m.channels();
+    let words = Words { n, words };
     if r.front == 0 {
         return false;
     }
     if header_of(m, r).place != place_of(m.columns, r.destination) {
         return false;
     }
-    if holds_of(words, n, r.front - 1) == 0 {
+    if words.holds(r.front - 1) == 0 {
         return false;
     }
     r.eaten < r.flits
@@ -48,12 +49,13 @@ pub fn eat(words: &mut [u16], m: Mesh, r: Record) -> Record
         ≡ eat (laid m words.old) r }
 {
     let n = m.channels();
+    let mut words = WordsMut { n, words };
     let k = r.front - 1;
-    drain(words, n, k);
+    words.drain(k);
     let bitten = Record {
         eaten: r.eaten + 1,
         ..r
     };
-    let released = leave(words, n, bitten, k, r.front);
+    let released = leave(&mut words, bitten, k, r.front);
     finish(bitten, released)
 }

@@ -5,7 +5,7 @@ ghost use Rattle.wormhole.specs.Coded.{Packet, Memory, built, laid};
 
 use crate::follows::has_room;
 use crate::records::Record;
-use crate::words::fill;
+use crate::words::{Words, WordsMut};
 use route::Mesh;
 
 /// May a flit enter the packet's rear?
@@ -15,10 +15,11 @@ pub fn may_feed(words: &[u16], m: Mesh, r: Record) -> bool
     ensures { result ≡ may_feed (built m) (laid m words.now) r }
 {
     let n = m.channels();
+    let words = Words { n, words };
     if r.waiting == 0 {
         return false;
     }
-    has_room(words, n, r.rear)
+    has_room(words, r.rear)
 }
 
 /// A flit enters the packet's rear. Returns the packet's record.
@@ -30,7 +31,8 @@ pub fn feed(words: &mut [u16], m: Mesh, r: Record) -> Record
         ≡ feed (laid m words.old) r }
 {
     let n = m.channels();
-    fill(words, n, r.rear - 1);
+    let mut words = WordsMut { n, words };
+    words.fill(r.rear - 1);
     Record {
         waiting: r.waiting - 1,
         ..r

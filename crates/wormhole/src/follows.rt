@@ -1,27 +1,26 @@
 // A flit follows within its packet.
-ghost use Rattle.std.specs.Prelude.{◌≡◌, true, ◌+◌, ◌<◌, ◌≤◌, length};
+ghost use Rattle.std.specs.Prelude.{◌≡◌, true, ◌<◌, ◌≤◌};
 ghost use Rattle.route.specs.Numbers.{channels};
 ghost use Rattle.route.specs.Coded.{Roomy};
-ghost use Rattle.wormhole.specs.Memory.{depth, sections};
+ghost use Rattle.wormhole.specs.Memory.{depth};
 ghost use Rattle.wormhole.specs.Steps.{stepped, room, can_follow, may_follow, follow};
-ghost use Rattle.wormhole.specs.Coded.{Memory, built, laid};
+ghost use Rattle.wormhole.specs.Coded.{Memory, built, laid, seen};
 
 use crate::ranges::DEPTH;
 use crate::records::Record;
 use crate::releases::leave;
-use crate::words::{drain, fill, holds_of, next_of, owner_of};
+use crate::words::{Words, WordsMut};
 use route::Mesh;
 
 /// Does a word name a channel that has room for a flit?
-pub fn has_room(words: &[u16], n: usize, word: u16) -> bool
-    requires words_len { length words.now ≡ n + n + n }
-    requires word_le_n { word ≤ n }
-    ensures { result ≡ room depth (sections n words.now) word }
+pub fn has_room(words: Words<'_>, word: u16) -> bool
+    requires { word ≤ words.n }
+    ensures { result ≡ room depth (seen words.entry) word }
 {
     if word == 0 {
         return false;
     }
-    holds_of(words, n, word - 1) < DEPTH
+    words.holds(word - 1) < DEPTH
 }
 
 /// May a flit of packet i go from channel k to the packet's next?
@@ -31,13 +30,14 @@ pub fn may_follow(words: &[u16], m: Mesh, i: u8, k: u16) -> bool
     ensures { result ≡ may_follow (built m) (laid m words.now) i k }
 {
     let n = m.channels();
-    if owner_of(words, n, k) != i as u16 + 1 {
+    let words = Words { n, words };
+    if words.owner(k) != i as u16 + 1 {
         return false;
     }
-    if holds_of(words, n, k) == 0 {
+    if words.holds(k) == 0 {
         return false;
     }
-    has_room(words, n, next_of(words, n, k))
+    has_room(words, words.next(k))
 }
 
 /// A flit goes from channel k to the packet's next. Returns the packet's record.
@@ -50,8 +50,9 @@ pub fn follow(words: &mut [u16], m: Mesh, r: Record, k: u16) -> Record
         ≡ follow (laid m words.old) r k }
 {
     let n = m.channels();
-    let next = next_of(words, n, k);
-    drain(words, n, k);
-    fill(words, n, next - 1);
-    leave(words, n, r, k, r.front)
+    let mut words = WordsMut { n, words };
+    let next = words.next(k);
+    words.drain(k);
+    words.fill(next - 1);
+    leave(&mut words, r, k, r.front)
 }

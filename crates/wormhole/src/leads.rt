@@ -1,16 +1,16 @@
 // The header takes a further channel.
-ghost use Rattle.std.specs.Prelude.{◌≡◌, true, ◌+◌, ◌<◌, ◌≤◌, length};
+ghost use Rattle.std.specs.Prelude.{◌≡◌, true, ◌<◌, ◌≤◌};
 ghost use Rattle.route.specs.Mesh.{Inside};
 ghost use Rattle.route.specs.Numbers.{channels, number, facing, arriving};
 ghost use Rattle.route.specs.Channels.{channel};
 ghost use Rattle.route.specs.Coded.{meant};
-ghost use Rattle.wormhole.specs.Memory.{sections, holds_of};
+ghost use Rattle.wormhole.specs.Memory.{holds_of};
 ghost use Rattle.wormhole.specs.Steps.{stepped, head, arrival, ready, ahead, onward, may_lead, claim, start, advance, lead};
-ghost use Rattle.wormhole.specs.Coded.{Packet, Memory, built, laid};
+ghost use Rattle.wormhole.specs.Coded.{Packet, Memory, built, laid, seen, kept, Becomes, Leaves};
 
 use crate::records::Record;
 use crate::releases::leave;
-use crate::words::{drain, holds_of, owner_of, put, set_next};
+use crate::words::{Words, WordsMut};
 use route::{Arrival, Channel, Direction, Mesh, Place, channel_of, outputs_at, place_of};
 
 /// Where a packet's header is, and how it came there.
@@ -41,15 +41,14 @@ pub fn header_of(m: Mesh, r: Record) -> Header
 }
 
 // Is there a flit for the header to move?
-fn is_ready(words: &[u16], n: usize, r: Record) -> bool
-    requires words_len { length words.now ≡ n + n + n }
-    requires front_le_n { r.front ≤ n }
-    ensures { result ≡ ready (sections n words.now) r }
+fn is_ready(words: Words<'_>, r: Record) -> bool
+    requires { r.front ≤ words.n }
+    ensures { result ≡ ready (seen words.entry) r }
 {
     if r.front == 0 {
         return 1 <= r.waiting;
     }
-    1 <= holds_of(words, n, r.front - 1)
+    1 <= words.holds(r.front - 1)
 }
 
 // Does the rule let the header go on by a direction, on a shortest path?
@@ -88,33 +87,32 @@ pub fn may_lead(words: &[u16], m: Mesh, r: Record, direction: Direction) -> bool
     ensures { result ≡ may_lead (built m) (laid m words.now) r (number (facing direction)) }
 {
     let n = m.channels();
-    if !is_ready(words, n, r) {
+    let words = Words { n, words };
+    if !is_ready(words, r) {
         return false;
     }
     if !is_open(m, r, direction) {
         return false;
     }
-    owner_of(words, n, ahead(m, r, direction)) == 0
+    words.owner(ahead(m, r, direction)) == 0
 }
 
 // Makes channel t packet i's, with the header's flit in it.
-fn claim(words: &mut [u16], n: usize, t: u16, i: u8)
-    requires words_len { length words.old ≡ n + n + n }
-    requires t_lt_n { t < n }
-    ensures { sections n words.new ≡ claim (sections n words.old) t i }
+fn claim(words: &mut WordsMut<'_>, t: u16, i: u8)
+    requires { t < words.old.n }
+    ensures { Becomes words.old words.new (claim (kept words.old) t i) }
 {
-    put(words, n, t, i as u16 + 1, 1, 0);
+    words.put(t, i as u16 + 1, 1, 0);
 }
 
 // The header goes from the source to channel t, for packet i.
-fn start(words: &mut [u16], n: usize, i: u8, r: Record, t: u16) -> Record
-    requires words_len { length words.old ≡ n + n + n }
-    requires t_lt_n { t < n }
+fn start(words: &mut WordsMut<'_>, i: u8, r: Record, t: u16) -> Record
+    requires t_lt_n { t < words.old.n }
     requires t_bound { t < 65535 }
     requires le_waiting { 1 ≤ r.waiting }
-    ensures { stepped (sections n words.new) result ≡ start (sections n words.old) i r t }
+    ensures { Leaves words.old words.new result (start (kept words.old) i r t) }
 {
-    claim(words, n, t, i);
+    claim(words, t, i);
     Record {
         waiting: r.waiting - 1,
         rear: t + 1,
@@ -124,20 +122,19 @@ fn start(words: &mut [u16], n: usize, i: u8, r: Record, t: u16) -> Record
 }
 
 // The header goes from channel k to channel t, for packet i.
-fn advance(words: &mut [u16], n: usize, i: u8, r: Record, t: u16, k: u16) -> Record
-    requires words_len { length words.old ≡ n + n + n }
-    requires t_lt_n { t < n }
+fn advance(words: &mut WordsMut<'_>, i: u8, r: Record, t: u16, k: u16) -> Record
+    requires t_lt_n { t < words.old.n }
     requires t_bound { t < 65535 }
-    requires k_lt_n { k < n }
+    requires k_lt_n { k < words.old.n }
     requires k_bound { k < 65535 }
-    requires k_nonzero { 0 < holds_of (sections n words.old) k }
-    ensures { stepped (sections n words.new) result ≡ advance (sections n words.old) i r t k }
+    requires k_nonzero { 0 < holds_of (kept words.old) k }
+    ensures { Leaves words.old words.new result (advance (kept words.old) i r t k) }
 {
-    drain(words, n, k);
-    set_next(words, n, k, t + 1);
-    claim(words, n, t, i);
+    words.drain(k);
+    words.set_next(k, t + 1);
+    claim(words, t, i);
     let s = Record { front: t + 1, ..r };
-    leave(words, n, s, k, k + 1)
+    leave(words, s, k, k + 1)
 }
 
 /// The header takes the channel in a direction, for packet i. Returns the packet's record.
@@ -149,9 +146,10 @@ pub fn lead(words: &mut [u16], m: Mesh, i: u8, r: Record, direction: Direction) 
         ≡ lead (built m) (laid m words.old) i r (number (facing direction)) }
 {
     let n = m.channels();
+    let mut words = WordsMut { n, words };
     let t = ahead(m, r, direction);
     if r.front == 0 {
-        return start(words, n, i, r, t);
+        return start(&mut words, i, r, t);
     }
-    advance(words, n, i, r, t, r.front - 1)
+    advance(&mut words, i, r, t, r.front - 1)
 }

@@ -27,4 +27,4 @@ pub use records::{Record, fresh};
 pub use resets::mesh_reset;
 pub use sizes::{served, sized, words_needed};
 pub use steps::{Step, act, may_move};
-pub use words::owner_of;
+pub use words::Words;

@@ -2,8 +2,8 @@
 ghost use Rattle.std.specs.Prelude.{◌≡◌};
 ghost use Rattle.wormhole.specs.Memory.{fresh};
 
-/// A packet's record. An empty one is all zero. `rear` and `front` are 0, or 1 + the oldest and the
-/// newest channel held.
+/// A packet's record, with the fields that C has: `live` is 1, and 0 in an empty one, which is all zero;
+/// `rear` and `front` are 0, or 1 + the oldest and the newest channel held.
 #[repr(C)]
 #[derive(Clone, Copy, Debug, Default, PartialEq, Eq)]
 pub struct Record {

@@ -1,10 +1,10 @@
 // What happens after a flit has left a channel.
-ghost use Rattle.std.specs.Prelude.{◌≡◌, ◌+◌, ◌<◌, length};
-ghost use Rattle.wormhole.specs.Memory.{sections};
-ghost use Rattle.wormhole.specs.Steps.{stepped, shortened, release, leave};
+ghost use Rattle.std.specs.Prelude.{◌≡◌, ◌<◌};
+ghost use Rattle.wormhole.specs.Steps.{shortened, release, leave};
+ghost use Rattle.wormhole.specs.Coded.{kept, Leaves};
 
 use crate::records::Record;
-use crate::words::{holds_of, next_of, put};
+use crate::words::WordsMut;
 
 // The record of a packet that gives up channel k, which had this next; `front` is the packet's front
 // before the move.
@@ -21,24 +21,22 @@ fn shorten(r: Record, k: u16, front: u16, next: u16) -> Record
 }
 
 // Gives up channel k of a packet.
-fn release(words: &mut [u16], n: usize, r: Record, k: u16, front: u16) -> Record
-    requires words_len { length words.old ≡ n + n + n }
-    requires k_lt_n { k < n }
+fn release(words: &mut WordsMut<'_>, r: Record, k: u16, front: u16) -> Record
+    requires k_lt_n { k < words.old.n }
     requires k_bound { k < 65535 }
-    ensures { stepped (sections n words.new) result ≡ release (sections n words.old) r k front }
+    ensures { Leaves words.old words.new result (release (kept words.old) r k front) }
 {
-    let next = next_of(words, n, k);
-    put(words, n, k, 0, 0, 0);
+    let next = words.next(k);
+    words.put(k, 0, 0, 0);
     shorten(r, k, front, next)
 }
 
 // Channel k of a packet, which a flit has left, is given up if it is the rear, is empty, and nothing
 // is to come from the source. Returns the packet's record.
-pub fn leave(words: &mut [u16], n: usize, r: Record, k: u16, front: u16) -> Record
-    requires words_len { length words.old ≡ n + n + n }
-    requires k_lt_n { k < n }
+pub fn leave(words: &mut WordsMut<'_>, r: Record, k: u16, front: u16) -> Record
+    requires k_lt_n { k < words.old.n }
     requires k_bound { k < 65535 }
-    ensures { stepped (sections n words.new) result ≡ leave (sections n words.old) r k front }
+    ensures { Leaves words.old words.new result (leave (kept words.old) r k front) }
 {
     if r.rear != k + 1 {
         return r;
@@ -46,8 +44,8 @@ pub fn leave(words: &mut [u16], n: usize, r: Record, k: u16, front: u16) -> Reco
     if r.waiting != 0 {
         return r;
     }
-    if holds_of(words, n, k) != 0 {
+    if words.holds(k) != 0 {
         return r;
     }
-    release(words, n, r, k, front)
+    release(words, r, k, front)
 }

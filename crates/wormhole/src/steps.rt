@@ -21,8 +21,8 @@ pub enum Step {
 }
 
 impl Step {
-    /// The move of these numbers, if there is such a kind and what it names exists. What a kind does
-    /// not name may be anything.
+    /// The move of these numbers, as C gives them, if there is such a kind and what it names exists. What
+    /// a kind does not name may be anything.
     pub fn of(m: Mesh, kind: u8, channel: u16, direction: u8) -> Option<Step>
         ensures known { is_some result ≡ known (meant m) kind channel direction }
         ensures step { IfSome result (λ s. Means s kind channel direction) }

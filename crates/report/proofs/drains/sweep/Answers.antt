@@ -10,8 +10,8 @@ pub loop-t-init : goal.loop-t-init
 unfolding turns
 loop-t-init c = refl
 
-pub turn_at-requires-clause-words_len : goal.turn_at-requires-clause-words_len
-turn_at-requires-clause-words_len c = search turn_long
+pub invariant_of-turn_at : goal.invariant_of-turn_at
+invariant_of-turn_at c = search turn_long
 
 pub turn_at-requires-clause-owner_bound : goal.turn_at-requires-clause-owner_bound
 turn_at-requires-clause-owner_bound c = search turn_owner

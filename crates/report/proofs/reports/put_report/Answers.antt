@@ -8,19 +8,19 @@ returns-in-Err c = prints_refused _ _ _ c.in-Err.refusal c.in-Err.ensures.refusa
 pub drain-all-requires : goal.drain-all-requires
 drain-all-requires c =
     let e = c.in-Ok.ensures in
-    record { mesh = e.mesh; readable = drain_so c.args.list.now c.args.words.now c.args.out.now e.refusal e.mesh c.words_needed-need.ensures.value }
+    record { mesh = e.mesh; readable = drain_so c.args.list.now c.args.words.now c.args.page.now e.refusal e.mesh c.words_needed-need.ensures.value }
 
-pub returns-then-not-is_idle : goal.returns-then-not-is_idle
-returns-then-not-is_idle c =
+pub returns-else-is_idle : goal.returns-else-is_idle
+returns-else-is_idle c =
     let e = c.in-Ok.ensures in
-    prints_stalled c.args.list.now c.args.words.now c.args.out.now e.refusal e.mesh c.words_needed-need.ensures.value _ _ c.drain-all.ensures c.is_idle.ensures c.if-not-is_idle.true c.put_text.ensures
+    prints_stalled c.args.list.now c.args.words.now c.args.page.now e.refusal e.mesh c.words_needed-need.ensures.value _ _ c.drain-all.ensures c.is_idle.ensures c.if-is_idle.false c.put_text.ensures
 
 pub put_sheet-requires-clause-few : goal.put_sheet-requires-clause-few
 put_sheet-requires-clause-few c =
     let e = c.in-Ok.ensures in
-    few_drained c.args.list.now c.args.words.now c.args.out.now e.refusal e.mesh c.words_needed-need.ensures.value _ _ c.drain-all.ensures
+    few_drained c.args.list.now c.args.words.now c.args.page.now e.refusal e.mesh c.words_needed-need.ensures.value _ _ c.drain-all.ensures
 
-pub returns : goal.returns
-returns c =
+pub returns-then-is_idle : goal.returns-then-is_idle
+returns-then-is_idle c =
     let e = c.in-Ok.ensures in
-    prints_drained c.args.list.now c.args.words.now c.args.out.now e.refusal e.mesh c.words_needed-need.ensures.value _ _ c.drain-all.ensures c.is_idle.ensures c.if-not-is_idle.false c.put_sheet.ensures
+    prints_drained c.args.list.now c.args.words.now c.args.page.now e.refusal e.mesh c.words_needed-need.ensures.value _ _ c.drain-all.ensures c.is_idle.ensures c.if-is_idle.true c.put_sheet.ensures

@@ -1,11 +1,11 @@
 -- A number below 10 is its one digit; else the tenth's digits are put, and then the last. Assumes nothing.
-use Rattle.std.proofs.Common.{arith}
-use Rattle.traffic.specs.Coded.{page}
+use mathlib.Core.Path.{◌∙◌}
 use Rattle.report.proofs.Spelling.{put_one, put_tenth}
 use Rattle.report.proofs.texts.+put_number.Goals as goal
-
-pub returns-then-n-lt10 : goal.returns-then-n-lt10
-returns-then-n-lt10 t c = put_one (page c.args.out.now c.args.end) c.args.n (omega arith) c.put.ensures
+use Rattle.report.proofs.texts.+put_number.Goals.{then-n-ge10, else-n-ge10}
 
 pub returns : goal.returns
-returns t c = put_tenth (page c.args.out.now c.args.end) c.args.n (omega arith) c.put_number-at.ensures c.put-2.ensures
+returns t c = elim c.if-n-ge10.branch [
+  | then-n-ge10 w ↦ put_tenth c.args.page.now c.args.n w.if-n-ge10.true (w.page-is ∙ w.put_number.ensures) c.put.ensures
+  | else-n-ge10 w ↦ put_one c.args.page.now c.args.n w.if-n-ge10.false (rw w.page-is at c.put.ensures)
+]

@@ -1,25 +1,14 @@
 -- The refusals by their tests; else the pair that `first_pair` finds. Assumes nothing.
-use mathlib.Core.Path.{refl}
-use native.Mathlib.Omega.{arith}
 use Rattle.std.proofs.lemmas.Result.{err_from_is_err_and}
-use Rattle.route.proofs.Unless.{code_high}
-use Rattle.route.proofs.Listed.{not_checked, of_rule, roomy, a_word_each, is_checked}
+use Rattle.route.proofs.Listed.{not_checked, is_checked}
 use Rattle.route.proofs.checks.mesh_check.Goals as goal
 
-pub returns-in_err-rule : goal.returns-in_err-rule
-returns-in_err-rule c =
+pub returns-in_err-numbering : goal.returns-in_err-numbering
+returns-in_err-numbering c =
     let p = err_from_is_err_and c.from_residual.result c.from_residual.ensures.1 in
-    rw (p.1, p.2) (not_checked _ _ _ _ c.in_err-rule.ensures.refusal (λ z. omega (arith, code_high c.in_err-rule.field-0.0)) refl)
-
-pub first_pair-requires : goal.first_pair-requires
-first_pair-requires c =
-    let p = c.args.plan in
-    let list = c.args.list.now in
-    let e = c.in_ok-rule.ensures in
-    let hm = of_rule _ _ c.mesh_of.ensures e.rule in
-    record { roomy = roomy _ _ p.rule list e.refusal refl _ hm; list_len = a_word_each _ _ p.rule list e.refusal refl _ hm }
+    rw (p.1, p.2) (not_checked _ _ _ _ c.in_err-numbering.field-0.0 c.in_err-numbering.ensures.refusal)
 
 pub returns : goal.returns
 returns c =
-    let e = c.in_ok-rule.ensures in
-    is_checked _ _ _ _ e.refusal refl c.mesh_of.result (of_rule _ _ c.mesh_of.ensures e.rule) c.first_pair.ensures
+    let e = c.in_ok-numbering.ensures in
+    is_checked _ _ _ _ e.refusal _ e.mesh c.first_pair.ensures

@@ -6,9 +6,6 @@ use Rattle.traffic.proofs.Heads.{length_headers}
 use Rattle.traffic.proofs.Refusals.{listing}
 use Rattle.traffic.proofs.lists.packets_of.Goals as goal
 
-pub overflow_sub-result : goal.overflow_sub-result
-overflow_sub-result c = (listing (length c.args.list.now) c.requires).some
-
 pub returns : goal.returns
 returns c =
     let l = c.args.list.now in

@@ -5,7 +5,7 @@ use borrow.Author.Rules.{rules}
 use lib.ListN.{length, replicate}
 use Rattle.std.proofs.lemmas.Result.{err_from_is_err_and}
 use Rattle.traffic.proofs.Storing.{stored, stored_more}
-use Rattle.traffic.proofs.Whole.{read_refused, read_long, read_lead, read_good, read_done}
+use Rattle.traffic.proofs.Whole.{read_refused, read_done}
 use Rattle.traffic.proofs.reads.mesh_read.Goals as goal
 
 pub returns-in_err-m : goal.returns-in_err-m
@@ -17,20 +17,8 @@ pub loop-i-init : goal.loop-i-init
 unfolding stored
 loop-i-init c = refl
 
-pub packet_at-requires : goal.packet_at-requires
-packet_at-requires c =
-    let x = c.args in
-    let e = c.in_ok-m.ensures in
-    record { in_bounds = read_lead x.list.now x.words.now x.records.now e.refusal e.mesh; headers_served = read_good x.list.now x.words.now x.records.now e.refusal e.mesh }
-
 pub loop-i-preserved : goal.loop-i-preserved
 loop-i-preserved c = stored_more _ _ c.loop-i.i c.loop-i.invariant c.packet_at.ensures refl
-
-pub lead_of-requires : goal.lead_of-requires
-lead_of-requires c = let e = c.in_ok-m.ensures in read_lead c.args.list.now c.args.words.now c.args.records.now e.refusal e.mesh
-
-pub packets_of-requires : goal.packets_of-requires
-packets_of-requires c = let e = c.in_ok-m.ensures in read_long c.args.list.now c.args.words.now c.args.records.now e.refusal e.mesh
 
 pub returns : goal.returns
 returns c =

@@ -6,7 +6,8 @@ use borrow.Author.Tests.{eq-eqb, ne_eqb}
 use Rattle.route.specs.Coded.{meant}
 use Rattle.wormhole.specs.declared.records.Record.{Record}
 use Rattle.traffic.specs.Lists.{node_byte, record_bytes}
-use Rattle.traffic.specs.Coded.{Page, page, put, puts}
+use Rattle.traffic.specs.declared.pages.Page.{Page}
+use Rattle.traffic.specs.Coded.{put, puts}
 use Rattle.traffic.proofs.Alive.{alive}
 use Rattle.traffic.proofs.Putting.{putting, put_last}
 use Rattle.traffic.proofs.writes.put_record.Goals as goal
@@ -35,4 +36,4 @@ overflow_sub-r c = (alive (meant c.args.m) c.args.r c.requires.fits c.if-r-eq0.f
 
 pub returns : goal.returns
 returns c = let x = c.args in
-    three (page x.out.now x.end) x.m.columns x.r c.if-r-eq0.false c.node_byte.ensures c.node_byte-2.ensures refl c.put-source.ensures c.put-destination.ensures c.put.ensures
+    three x.page.now x.m.columns x.r c.if-r-eq0.false c.node_byte.ensures c.node_byte-2.ensures refl c.put.ensures c.put-2.ensures c.put-3.ensures

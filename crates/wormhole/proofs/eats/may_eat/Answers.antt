@@ -20,17 +20,17 @@ returns-then-ne c =
     let h = c.header_of.ensures in
     eat_away _ _ _ c.channels-n.ensures.value _ c.if-r-eq0.false _ _ h.place c.place_of.ensures _ refl (not-true _ (sym c.ne.ensures ∙ c.if-ne.true))
 
-pub holds_of-requires-clause-k_lt_n : goal.holds_of-requires-clause-k_lt_n
-holds_of-requires-clause-k_lt_n c =
+pub holds-requires : goal.holds-requires
+holds-requires c =
     let x = c.args in
     omega (arith, front_below x.m x.r (tells x.m x.r c.requires.packet) c.if-r-eq0.false)
 
-pub returns-then-holds_of-eq0 : goal.returns-then-holds_of-eq0
-returns-then-holds_of-eq0 c =
+pub returns-then-holds-eq0 : goal.returns-then-holds-eq0
+returns-then-holds-eq0 c =
     let h = c.header_of.ensures in
-    eat_empty _ _ _ c.channels-n.ensures.value _ c.if-r-eq0.false _ _ h.place c.place_of.ensures _ refl (not-false _ (sym c.ne.ensures ∙ c.if-ne.false)) _ c.holds_of.ensures (omega arith)
+    eat_empty _ _ _ c.channels-n.ensures.value _ c.if-r-eq0.false _ _ h.place c.place_of.ensures _ refl (not-false _ (sym c.ne.ensures ∙ c.if-ne.false)) _ c.holds.ensures (omega arith)
 
 pub returns : goal.returns
 returns c =
     let h = c.header_of.ensures in
-    eat_left _ _ _ c.channels-n.ensures.value _ c.if-r-eq0.false _ _ h.place c.place_of.ensures _ refl (not-false _ (sym c.ne.ensures ∙ c.if-ne.false)) _ c.holds_of.ensures (omega arith)
+    eat_left _ _ _ c.channels-n.ensures.value _ c.if-r-eq0.false _ _ h.place c.place_of.ensures _ refl (not-false _ (sym c.ne.ensures ∙ c.if-ne.false)) _ c.holds.ensures (omega arith)

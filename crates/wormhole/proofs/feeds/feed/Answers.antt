@@ -1,5 +1,7 @@
 -- What the test of the move tells is what the store asks for. Assumes nothing.
+use mathlib.Core.Path.{refl}
 use borrow.Author.Rules.{rules}
+use Rattle.wormhole.proofs.Serving.{written}
 use Rattle.wormhole.proofs.Flowing.{feed_waiting, fed, feed_some, feed_in, feed_room}
 use Rattle.wormhole.proofs.feeds.feed.Goals as goal
 
@@ -7,10 +9,12 @@ pub overflow_sub-r : goal.overflow_sub-r
 overflow_sub-r c = search feed_some
 
 pub fill-requires : goal.fill-requires
-fill-requires c = record { words_len = search rules; k_lt_n = search feed_in; k_bound = search feed_room }
+fill-requires c = record { k_lt_n = search feed_in; k_bound = search feed_room }
 
 pub overflow_sub-result : goal.overflow_sub-result
 overflow_sub-result c = search feed_waiting
 
 pub returns : goal.returns
-returns c = search fed
+returns c =
+    let x = c.args in
+    fed x.m _ _ c.channels-n.ensures.value x.r _ (written _ _ refl c.fill.ensures (search rules))

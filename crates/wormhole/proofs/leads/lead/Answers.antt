@@ -1,7 +1,8 @@
 -- What the test of the move tells is what the stores ask for; from the source or from the front. Assumes nothing.
+use mathlib.Core.Path.{refl}
 use native.Mathlib.Omega.{arith}
 use borrow.Author.Rules.{rules}
-use Rattle.wormhole.proofs.Serving.{Told, tells}
+use Rattle.wormhole.proofs.Serving.{Told, tells, moved}
 use Rattle.wormhole.proofs.Leading.{front_below, lead_waiting, lead_flit, led_out, led_on}
 use Rattle.wormhole.proofs.leads.lead.Goals as goal
 
@@ -9,17 +10,23 @@ pub start-requires : goal.start-requires
 start-requires c =
     let x = c.args in
     let t : Told x.m x.r = search tells in
-    record { words_len = omega arith; t_lt_n = omega arith; t_bound = omega arith; le_waiting = search lead_waiting }
+    record { t_lt_n = omega arith; t_bound = omega arith; le_waiting = search lead_waiting }
 
 pub returns-then-r-eq0 : goal.returns-then-r-eq0
-returns-then-r-eq0 c = search led_out
+returns-then-r-eq0 c =
+    let x = c.args in
+    let e = moved _ _ refl c.start.ensures (search rules) in
+    led_out x.m x.i x.r _ _ _ _ _ c.channels-n.ensures.value _ c.ahead-t.ensures.value c.if-r-eq0.true e
 
 pub advance-requires : goal.advance-requires
 advance-requires c =
     let x = c.args in
     let t : Told x.m x.r = search tells in
     let low = front_below x.m x.r t (search rules) in
-    record { words_len = omega arith; t_lt_n = omega arith; t_bound = omega arith; k_lt_n = omega arith; k_bound = omega arith; k_nonzero = search lead_flit }
+    record { t_lt_n = omega arith; t_bound = omega arith; k_lt_n = omega arith; k_bound = omega arith; k_nonzero = search lead_flit }
 
 pub returns : goal.returns
-returns c = search led_on
+returns c =
+    let x = c.args in
+    let e = moved _ _ refl c.advance.ensures (search rules) in
+    led_on x.m x.i x.r _ _ _ _ _ c.channels-n.ensures.value _ c.ahead-t.ensures.value c.if-r-eq0.false e

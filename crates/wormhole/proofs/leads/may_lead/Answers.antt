@@ -1,11 +1,10 @@
 -- Each return by the tests before it. Assumes nothing.
-use borrow.Author.Rules.{rules}
 use Rattle.wormhole.proofs.Serving.{front_within}
 use Rattle.wormhole.proofs.Leading.{lead_unready, lead_shut, lead_free}
 use Rattle.wormhole.proofs.leads.may_lead.Goals as goal
 
 pub is_ready-requires : goal.is_ready-requires
-is_ready-requires c = record { words_len = search rules; front_le_n = search front_within }
+is_ready-requires c = search front_within
 
 pub returns-then-not-is_ready : goal.returns-then-not-is_ready
 returns-then-not-is_ready c = search lead_unready

@@ -1,7 +1,5 @@
 -- The refusals by their tests; else the lowest empty record gets the packet. Assumes nothing.
-use native.Mathlib.Omega.{arith}
 use Rattle.std.proofs.lemmas.Result.{err_from_is_err_and}
-use Rattle.wormhole.proofs.ByKind.{few_records}
 use Rattle.wormhole.proofs.Whole.{offer_refused, offer_unfit, offer_full, offer_done}
 use Rattle.wormhole.proofs.offers.mesh_offer.Goals as goal
 
@@ -21,12 +19,6 @@ pub returns-in_default : goal.returns-in_default
 returns-in_default c =
     let e = c.in_ok-m.ensures in
     offer_full _ _ _ _ _ _ _ _ e.refusal e.mesh c.in_ok-check_packet.ensures c.in_default.ensures.lowest
-
-pub overflow_cast-result : goal.overflow_cast-result
-overflow_cast-result c =
-    let x = c.args in
-    let e = c.in_ok-m.ensures in
-    record { fits = omega (arith, few_records x.plan.columns x.plan.rows x.plan.rule x.words.now x.records.now e.refusal _ e.mesh, c.in-Some.ensures.bound) }
 
 pub returns : goal.returns
 returns c =

@@ -1,7 +1,0 @@
--- What is filled are the numbers of the channels so far, and the rest is as it was. Assumes nothing.
-use native.Mathlib.Omega.{arith}
-use Rattle.route.proofs.House.{fill_more}
-use Rattle.route.proofs.numberings.fill.Goals as goal
-
-pub loop-number-preserved : goal.loop-number-preserved
-loop-number-preserved c = fill_more _ _ _ _ c.loop-number.invariant (omega arith) _ c.word_of.ensures (omega arith)
