@@ -6,7 +6,7 @@ ghost use Rattle.report.specs.Sweeps.{own_turn, turn};
 ghost use Rattle.report.specs.Coded.{accepted, done, Makes};
 
 use route::{Direction, Mesh};
-use wormhole::{Record, Step, Words, act, may_move};
+use wormhole::{Packet, Record, Step, Words, may_move};
 
 // The records of a report.
 pub const RECORDS: usize = 64;
@@ -87,9 +87,12 @@ pub fn make(words: &mut [u16], m: Mesh, v: Turn, c: Counted) -> Counted
     ensures { record { words = laid m words.new; counted = result }
         ≡ done (built m) (laid m words.old) v c }
 {
-    let packet = act(words, m, v.packet, c.packet, v.step);
+    let packet = Packet {
+        mesh: m,
+        state: c.packet,
+    };
     Counted {
-        packet,
+        packet: packet.act(words, v.packet, v.step),
         moves: c.moves + 1,
     }
 }

@@ -18,7 +18,7 @@ use Rattle.route.specs.Coded.{meant}
 use Rattle.wormhole.specs.declared.records.Record.{Record}
 use Rattle.wormhole.specs.Memory.{depth, Sections, sections, owner_of, holds_of, next_of, hold, drain, fill, anew, named}
 use Rattle.wormhole.specs.Steps.{stepped, leave, head, goal, room, can_follow, may_follow, follow, may_feed, feed, may_eat, bite, finished, eat}
-use Rattle.wormhole.specs.Coded.{built, laid, Packet, Memory}
+use Rattle.wormhole.specs.Coded.{built, laid, Served, Memory}
 use Rattle.wormhole.proofs.Every.{both}
 use Rattle.wormhole.proofs.Serving.{named_none, named_some, names_low, next_names, tells}
 
@@ -130,7 +130,7 @@ module _ (m : Coded) (n : ℕ) (w : List ℕ) (hn : n ≡ channels m.columns m.r
       pub feed_some : 1 ≤ r.rear
       feed_some = feed_open.some
 
-      pub feed_in : Packet m r → r.rear - 1 < n
+      pub feed_in : Served m r → r.rear - 1 < n
       feed_in p = omega (arith, (tells m r p).rear_low, feed_open.some)
 
       pub feed_room : holds_of (sections n w) (r.rear - 1) < 65535
@@ -191,10 +191,10 @@ module _ (m : Coded) (n : ℕ) (w : List ℕ) (hn : n ≡ channels m.columns m.r
       pub eat_fits : Fits w8 r.flits → Fits w8 (r.eaten + 1)
       eat_fits h = record { fits = omega (arith, eat_tells.2, h.fits) }
 
-      pub eat_in : Packet m r → r.front - 1 < n
+      pub eat_in : Served m r → r.front - 1 < n
       eat_in p = omega (arith, (tells m r p).front_low, eat_tells.0)
 
-      pub eat_small : Packet m r → r.front - 1 < 65535
+      pub eat_small : Served m r → r.front - 1 < 65535
       eat_small p = let t = tells m r p in omega (arith, t.front_low, t.few)
 
     pub ate : (q z : Record) (t : Sections) (v : List ℕ) → t ≡ drain (sections n w) (r.front - 1)

@@ -20,7 +20,7 @@ use Rattle.wormhole.specs.declared.words.WordsMut.{WordsMut}
 use Rattle.wormhole.specs.Memory.{Sections, sections, next_of, named}
 use Rattle.wormhole.specs.Range.{names, blank, packet_fits, record_fits}
 use Rattle.wormhole.specs.Steps.{Stepped, stepped}
-use Rattle.wormhole.specs.Coded.{Packet, Memory, Becomes, Leaves}
+use Rattle.wormhole.specs.Coded.{Served, Memory, Becomes, Leaves}
 use Rattle.wormhole.proofs.Every.{both, every_at}
 
 -- ---- words that are 0, or 1 + a channel
@@ -59,7 +59,7 @@ few_channels m h = words_fit m.columns m.rows h.columns_high h.rows_high
 pub number_small : (m : Coded) (k : ℕ) → Roomy m → k < channels m.columns m.rows → k < 65535
 number_small m k h l = omega (arith, few_channels m h)
 
-pub tells : (m : Coded) (r : Record) → Packet m r → Told m r
+pub tells : (m : Coded) (r : Record) → Served m r → Told m r
 unfolding record_fits
 tells m r p =
     let ends = names (meant m) r.rear && names (meant m) r.front in
@@ -100,7 +100,7 @@ module _ {old new : WordsMut} (n : ℕ) (v : List ℕ) (count : old.n ≡ n) whe
   moved h e = rw (e, ← count, ← h.count) h.step
 
 -- ---- as the code asks for it
-module _ (m : Coded) (r : Record) (p : Packet m r) where
+module _ (m : Coded) (r : Record) (p : Served m r) where
   pub front_within : (n : ℕ) → n ≡ channels m.columns m.rows → r.front ≤ n
   front_within n e = omega (arith, (tells m r p).front_low)
 

@@ -37,7 +37,7 @@ pub record Fitting (m : Coded) (r : Record) : Type 0 where
   pub fits : record_fits (meant m) r ≡ true
 
 -- a packet that the steps can serve: such a record that is live
-pub record Packet (m : Coded) (r : Record) : Type 0 where
+pub record Served (m : Coded) (r : Record) : Type 0 where
   pub fitting : Fitting m r
   pub live : r.live ≡ 1
 

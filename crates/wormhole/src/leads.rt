@@ -6,38 +6,19 @@ ghost use Rattle.route.specs.Channels.{channel};
 ghost use Rattle.route.specs.Coded.{meant};
 ghost use Rattle.wormhole.specs.Memory.{holds_of};
 ghost use Rattle.wormhole.specs.Steps.{stepped, head, arrival, ready, ahead, onward, may_lead, claim, start, advance, lead};
-ghost use Rattle.wormhole.specs.Coded.{Packet, Memory, built, laid, seen, kept, Becomes, Leaves};
+ghost use Rattle.wormhole.specs.Coded.{Memory, built, laid, seen, kept, Becomes, Leaves};
 
+use crate::packets::Packet;
 use crate::records::Record;
 use crate::releases::leave;
 use crate::words::{Words, WordsMut};
-use route::{Arrival, Channel, Direction, Mesh, Place, channel_of, outputs_at, place_of};
+use route::{Arrival, Channel, Direction, Place, channel_of, outputs_at, place_of};
 
 /// Where a packet's header is, and how it came there.
 #[derive(Clone, Copy)]
 pub struct Header {
     pub place: Place,
     pub arrival: Arrival,
-}
-
-/// The header of a packet: at its source, or at the end of its front channel.
-pub fn header_of(m: Mesh, r: Record) -> Header
-    requires { Packet m r }
-    ensures place { result.place ≡ head (meant m) r }
-    ensures arrival { arriving result.arrival ≡ arrival r }
-    ensures inside { Inside (meant m) result.place }
-{
-    if r.front == 0 {
-        return Header {
-            place: place_of(m.columns, r.source),
-            arrival: Arrival::Local,
-        };
-    }
-    let channel = channel_of(m.columns, r.front - 1);
-    Header {
-        place: m.hop(channel.start, channel.way),
-        arrival: Arrival::Going(channel.way),
-    }
 }
 
 // Is there a flit for the header to move?
@@ -49,52 +30,6 @@ fn is_ready(words: Words<'_>, r: Record) -> bool
         return 1 <= r.waiting;
     }
     1 <= words.holds(r.front - 1)
-}
-
-// Does the rule let the header go on by a direction, on a shortest path?
-fn is_open(m: Mesh, r: Record, direction: Direction) -> bool
-    requires { Packet m r }
-    ensures { result ≡ onward (meant m) r (number (facing direction)) }
-{
-    let header = header_of(m, r);
-    let outputs = outputs_at(
-        m,
-        header.place,
-        header.arrival,
-        place_of(m.columns, r.destination),
-    );
-    (outputs >> direction.number()) % 2 == 1
-}
-
-// The channel that the header would take.
-fn ahead(m: Mesh, r: Record, direction: Direction) -> u16
-    requires { Packet m r }
-    ensures value { result ≡ ahead (meant m) r (number (facing direction)) }
-    ensures bound { result < channels m.columns m.rows }
-{
-    let start = header_of(m, r).place;
-    let channel = Channel {
-        start,
-        way: direction,
-    };
-    channel.number(m.columns)
-}
-
-/// May the header take the channel in a direction?
-pub fn may_lead(words: &[u16], m: Mesh, r: Record, direction: Direction) -> bool
-    requires packet { Packet m r }
-    requires memory { Memory m words.now }
-    ensures { result ≡ may_lead (built m) (laid m words.now) r (number (facing direction)) }
-{
-    let n = m.channels();
-    let words = Words { n, words };
-    if !is_ready(words, r) {
-        return false;
-    }
-    if !is_open(m, r, direction) {
-        return false;
-    }
-    words.owner(ahead(m, r, direction)) == 0
 }
 
 // Makes channel t packet i's, with the header's flit in it.
@@ -137,19 +72,85 @@ fn advance(words: &mut WordsMut<'_>, i: u8, r: Record, t: u16, k: u16) -> Record
     leave(words, s, k, k + 1)
 }
 
-/// The header takes the channel in a direction, for packet i. Returns the packet's record.
-pub fn lead(words: &mut [u16], m: Mesh, i: u8, r: Record, direction: Direction) -> Record
-    requires packet { Packet m r }
-    requires memory { Memory m words.old }
-    requires may { may_lead (built m) (laid m words.old) r (number (facing direction)) ≡ true }
-    ensures { stepped (laid m words.new) result
-        ≡ lead (built m) (laid m words.old) i r (number (facing direction)) }
-{
-    let n = m.channels();
-    let mut words = WordsMut { n, words };
-    let t = ahead(m, r, direction);
-    if r.front == 0 {
-        return start(&mut words, i, r, t);
+impl Packet {
+    /// The header: at the packet's source, or at the end of its front channel.
+    pub fn header(self) -> Header
+        ensures place { result.place ≡ head (meant self.mesh) self.state }
+        ensures arrival { arriving result.arrival ≡ arrival self.state }
+        ensures inside { Inside (meant self.mesh) result.place }
+    {
+        let m = self.mesh;
+        let r = self.state;
+        if r.front == 0 {
+            return Header {
+                place: place_of(m.columns, r.source),
+                arrival: Arrival::Local,
+            };
+        }
+        let channel = channel_of(m.columns, r.front - 1);
+        Header {
+            place: m.hop(channel.start, channel.way),
+            arrival: Arrival::Going(channel.way),
+        }
     }
-    advance(&mut words, i, r, t, r.front - 1)
+
+    // Does the rule let the header go on by a direction, on a shortest path?
+    fn is_open(self, direction: Direction) -> bool
+        ensures { result ≡ onward (meant self.mesh) self.state (number (facing direction)) }
+    {
+        let header = self.header();
+        let outputs = outputs_at(
+            self.mesh,
+            header.place,
+            header.arrival,
+            place_of(self.mesh.columns, self.state.destination),
+        );
+        (outputs >> direction.number()) % 2 == 1
+    }
+
+    // The channel that the header would take.
+    fn ahead(self, direction: Direction) -> u16
+        ensures value { result ≡ ahead (meant self.mesh) self.state (number (facing direction)) }
+        ensures bound { result < channels self.mesh.columns self.mesh.rows }
+    {
+        let start = self.header().place;
+        let channel = Channel {
+            start,
+            way: direction,
+        };
+        channel.number(self.mesh.columns)
+    }
+
+    /// May the header take the channel in a direction?
+    pub fn may_lead(self, words: &[u16], direction: Direction) -> bool
+        requires { Memory self.mesh words.now }
+        ensures { result ≡ may_lead (built self.mesh) (laid self.mesh words.now) self.state (number (facing direction)) }
+    {
+        let n = self.mesh.channels();
+        let words = Words { n, words };
+        if !is_ready(words, self.state) {
+            return false;
+        }
+        if !self.is_open(direction) {
+            return false;
+        }
+        words.owner(self.ahead(direction)) == 0
+    }
+
+    /// The header takes the channel in a direction, for packet i. Returns the packet's record.
+    pub fn lead(self, words: &mut [u16], i: u8, direction: Direction) -> Record
+        requires memory { Memory self.mesh words.old }
+        requires may { may_lead (built self.mesh) (laid self.mesh words.old) self.state (number (facing direction)) ≡ true }
+        ensures { stepped (laid self.mesh words.new) result
+            ≡ lead (built self.mesh) (laid self.mesh words.old) i self.state (number (facing direction)) }
+    {
+        let n = self.mesh.channels();
+        let mut words = WordsMut { n, words };
+        let r = self.state;
+        let t = self.ahead(direction);
+        if r.front == 0 {
+            return start(&mut words, i, r, t);
+        }
+        advance(&mut words, i, r, t, r.front - 1)
+    }
 }

@@ -3,9 +3,10 @@ ghost use Rattle.std.specs.Prelude.{◌≡◌};
 ghost use Rattle.route.specs.Served.{refusal_of};
 ghost use Rattle.wormhole.specs.Calls.{left, move};
 
+use crate::packets::Packet;
 use crate::records::Record;
 use crate::sizes::served;
-use crate::steps::{Step, act, may_move};
+use crate::steps::{Step, may_move};
 use route::{Plan, Refusal};
 
 /// Moves one flit of a record's packet by one channel. `kind` is 0 lead, 1 follow, 2 feed, 3 eat; a
@@ -31,10 +32,11 @@ pub fn mesh_move(
     let Some(step) = Step::of(m, kind, channel, direction) else {
         return Err(Refusal::BadMove);
     };
-    let packet = records[i];
-    if !may_move(words, m, record, packet, step) {
+    let r = records[i];
+    if !may_move(words, m, record, r, step) {
         return Err(Refusal::NotNow);
     }
-    records[i] = act(words, m, record, packet, step);
+    let packet = Packet { mesh: m, state: r };
+    records[i] = packet.act(words, record, step);
     Ok(())
 }

@@ -2,12 +2,10 @@
 ghost use Rattle.std.specs.Prelude.{◌≡◌, true, IfSome, is_some};
 ghost use Rattle.route.specs.Coded.{meant};
 ghost use Rattle.wormhole.specs.Steps.{stepped, known};
-ghost use Rattle.wormhole.specs.Coded.{Fitting, Packet, Memory, built, laid, Means, takes, step_allowed, step_may, step_act};
+ghost use Rattle.wormhole.specs.Coded.{Fitting, Memory, built, laid, Means, takes, step_allowed, step_may, step_act};
 
-use crate::eats::{eat, may_eat};
-use crate::feeds::{feed, may_feed};
 use crate::follows::{follow, may_follow};
-use crate::leads::{lead, may_lead};
+use crate::packets::Packet;
 use crate::records::Record;
 use route::{Direction, Mesh, is_channel};
 
@@ -57,27 +55,29 @@ pub fn may_move(words: &[u16], m: Mesh, i: u8, r: Record, step: Step) -> bool
     if r.live != 1 {
         return false;
     }
+    let packet = Packet { mesh: m, state: r };
     match step {
-        Step::Lead(direction) => may_lead(words, m, r, direction),
+        Step::Lead(direction) => packet.may_lead(words, direction),
         Step::Follow(channel) => may_follow(words, m, i, channel),
-        Step::Feed => may_feed(words, m, r),
-        Step::Eat => may_eat(words, m, r),
+        Step::Feed => packet.may_feed(words),
+        Step::Eat => packet.may_eat(words),
     }
 }
 
-/// Packet i makes a move that it may make. Returns the packet's record.
-pub fn act(words: &mut [u16], m: Mesh, i: u8, r: Record, step: Step) -> Record
-    requires packet { Packet m r }
-    requires memory { Memory m words.old }
-    requires takes { takes (meant m) step ≡ true }
-    requires allowed { step_may (built m) (laid m words.old) i r step ≡ true }
-    ensures { stepped (laid m words.new) result
-        ≡ step_act (built m) (laid m words.old) i r step }
-{
-    match step {
-        Step::Lead(direction) => lead(words, m, i, r, direction),
-        Step::Follow(channel) => follow(words, m, r, channel),
-        Step::Feed => feed(words, m, r),
-        Step::Eat => eat(words, m, r),
+impl Packet {
+    /// Packet i makes a move that it may make. Returns the packet's record.
+    pub fn act(self, words: &mut [u16], i: u8, step: Step) -> Record
+        requires memory { Memory self.mesh words.old }
+        requires takes { takes (meant self.mesh) step ≡ true }
+        requires allowed { step_may (built self.mesh) (laid self.mesh words.old) i self.state step ≡ true }
+        ensures { stepped (laid self.mesh words.new) result
+            ≡ step_act (built self.mesh) (laid self.mesh words.old) i self.state step }
+    {
+        match step {
+            Step::Lead(direction) => self.lead(words, i, direction),
+            Step::Follow(channel) => follow(words, self.mesh, self.state, channel),
+            Step::Feed => self.feed(words),
+            Step::Eat => self.eat(words),
+        }
     }
 }

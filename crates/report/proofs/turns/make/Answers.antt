@@ -7,5 +7,5 @@ use Rattle.report.proofs.turns.make.Goals as goal
 pub returns : goal.returns
 returns c =
     let a = c.args in
-    let f = c.act-packet in
+    let f = c.act in
     made_counted (built a.m) (laid a.m a.words.now) a.v a.c (laid a.m f.new.words) f.result _ f.ensures (omega arith)

@@ -32,17 +32,22 @@ returns-then-not-may_move c =
     let v = c.in-Some.ensures in
     move_not_now _ _ _ _ _ _ _ _ _ e.refusal (omega arith) _ e.mesh v.known refl (c.may_move.ensures ∙ allowed_same c.in-Some.step _ _ _ v.step _ _ _ _) c.if-not-may_move.true
 
+pub invariant_of-packet : goal.invariant_of-packet
+invariant_of-packet c =
+    let x = c.args in
+    let e = c.in_ok-m.ensures in
+    let ok = sym c.may_move.ensures ∙ c.if-not-may_move.false in
+    record { served = record { fitting = record_served _ _ _ _ x.records.now e.refusal _ e.mesh x.«record»; live = allowed_live _ _ x.«record» _ _ _ _ ok } }
+
 pub act-requires : goal.act-requires
 act-requires c =
     let x = c.args in
     let e = c.in_ok-m.ensures in
     let v = c.in-Some.ensures in
-    let ok = sym c.may_move.ensures ∙ c.if-not-may_move.false in
     record {
-      packet = record { fitting = record_served _ _ _ _ x.records.now e.refusal _ e.mesh x.«record»; live = allowed_live _ _ x.«record» _ _ _ _ ok };
       memory = memory_served _ _ _ _ x.records.now e.refusal _ e.mesh;
       takes = known_same _ c.in-Some.step _ _ _ v.step ∙ sym v.known;
-      allowed = allowed_may _ _ _ _ _ _ _ ok;
+      allowed = allowed_may _ _ _ _ _ _ _ (sym c.may_move.ensures ∙ c.if-not-may_move.false);
     }
 
 pub returns : goal.returns

@@ -1,7 +1,7 @@
 -- Each return by the tests before it. Assumes nothing.
 use Rattle.wormhole.proofs.Serving.{front_within}
 use Rattle.wormhole.proofs.Leading.{lead_unready, lead_shut, lead_free}
-use Rattle.wormhole.proofs.leads.may_lead.Goals as goal
+use Rattle.wormhole.proofs.packets.Packet.may_lead.Goals as goal
 
 pub is_ready-requires : goal.is_ready-requires
 is_ready-requires c = search front_within

@@ -1,14 +1,14 @@
 -- Each return by the kind that led there. Assumes nothing.
 use Rattle.wormhole.specs.Steps.{may, act}
 use Rattle.wormhole.proofs.ByKind.{channel_low, may_follows}
-use Rattle.wormhole.proofs.steps.act.Goals as goal
+use Rattle.wormhole.proofs.packets.Packet.act.Goals as goal
 
 pub lead-requires-clause-may : goal.lead-requires-clause-may
 unfolding may
 lead-requires-clause-may c = rw c.in-Lead.is at c.requires.allowed
 
 pub follow-requires-clause-k_bound : goal.follow-requires-clause-k_bound
-follow-requires-clause-k_bound c = channel_low c.args.m c.in-Follow.channel (rw c.in-Follow.is at c.requires.takes)
+follow-requires-clause-k_bound c = channel_low c.args.self.mesh c.in-Follow.channel (rw c.in-Follow.is at c.requires.takes)
 
 pub follow-requires-clause-may : goal.follow-requires-clause-may
 unfolding may

@@ -2,7 +2,7 @@
 use borrow.Author.Rules.{rules}
 use Rattle.wormhole.proofs.Serving.{moved}
 use Rattle.wormhole.proofs.Flowing.{eat_front, eat_flit, ate, eat_fits, eat_in, eat_small}
-use Rattle.wormhole.proofs.eats.eat.Goals as goal
+use Rattle.wormhole.proofs.packets.Packet.eat.Goals as goal
 
 pub overflow_sub-k : goal.overflow_sub-k
 overflow_sub-k c = search eat_front
@@ -21,4 +21,4 @@ returns c =
     let x = c.args in
     let d = c.drain.ensures in
     let e = moved _ _ d.count c.leave-released.ensures (search rules) in
-    ate x.m _ _ c.channels-n.ensures.value x.r _ _ _ _ d.sections e c.finish.ensures
+    ate x.self.mesh _ _ c.channels-n.ensures.value x.self.state _ _ _ _ d.sections e c.finish.ensures

@@ -1,7 +1,7 @@
 -- Each return by the test before it. Assumes nothing.
 use Rattle.wormhole.proofs.Serving.{rear_within}
 use Rattle.wormhole.proofs.Flowing.{feed_none, feed_rear}
-use Rattle.wormhole.proofs.feeds.may_feed.Goals as goal
+use Rattle.wormhole.proofs.packets.Packet.may_feed.Goals as goal
 
 pub returns-then-r-eq0 : goal.returns-then-r-eq0
 returns-then-r-eq0 c = search feed_none

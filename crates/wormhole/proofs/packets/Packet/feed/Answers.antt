@@ -3,7 +3,7 @@ use mathlib.Core.Path.{refl}
 use borrow.Author.Rules.{rules}
 use Rattle.wormhole.proofs.Serving.{written}
 use Rattle.wormhole.proofs.Flowing.{feed_waiting, fed, feed_some, feed_in, feed_room}
-use Rattle.wormhole.proofs.feeds.feed.Goals as goal
+use Rattle.wormhole.proofs.packets.Packet.feed.Goals as goal
 
 pub overflow_sub-r : goal.overflow_sub-r
 overflow_sub-r c = search feed_some
@@ -17,4 +17,4 @@ overflow_sub-result c = search feed_waiting
 pub returns : goal.returns
 returns c =
     let x = c.args in
-    fed x.m _ _ c.channels-n.ensures.value x.r _ (written _ _ refl c.fill.ensures (search rules))
+    fed x.self.mesh _ _ c.channels-n.ensures.value x.self.state _ (written _ _ refl c.fill.ensures (search rules))
