@@ -19,9 +19,9 @@ use Rattle.report.proofs.Counting.{recs_set, recs_all, counts_all}
 
 -- ---- before the loop
 module _ (ps : List Record) where
-  pub none_loaded : {r : Record} → r ≡ none → recs (replicate 64 (record { packet = r; moves = 0 })) ≡ stored ps (replicate 64 none) 0
+  pub none_loaded : (c : Counted) → c.packet ≡ none → recs (replicate 64 c) ≡ stored ps (replicate 64 none) 0
   unfolding stored
-  none_loaded {r} e = recs_all 64 (record { packet = r; moves = 0 }) ∙ ap (replicate 64) e
+  none_loaded c e = recs_all 64 c ∙ ap (replicate 64) e
 
   -- ---- one more
   pub one_loaded : (cs : List Counted) (i : ℕ) → recs cs ≡ stored ps (replicate 64 none) i → (c : Counted) → c.packet ≡ get_or ps i none
@@ -29,8 +29,8 @@ module _ (ps : List Record) where
   unfolding stored
   one_loaded cs i e c h = rw (add-one i, recs_set cs i c, e, h) refl
 
-pub none_counted : (r : Record) → counts (replicate 64 (record { packet = r; moves = 0 })) ≡ replicate 64 0
-none_counted r = counts_all 64 (record { packet = r; moves = 0 })
+pub none_counted : (c : Counted) → c.moves ≡ 0 → counts (replicate 64 c) ≡ replicate 64 0
+none_counted c e = counts_all 64 c ∙ ap (replicate 64) e
 
 -- a packet that is loaded keeps its count
 pub still_none : (cs : List Counted) (i : ℕ) (c d : Counted) → c.moves ≡ (get_or cs i d).moves → counts cs ≡ replicate 64 0 → counts (set cs i c) ≡ replicate 64 0

@@ -12,28 +12,23 @@ ghost use Rattle.report.specs.Coded.{recs, counts, tally, Reached};
 use crate::turns::{Counted, OWN_TURNS, RECORDS, is_accepted, make, turn_at};
 use route::{Mesh, Plan};
 use traffic::{lead_of, packet_at};
-use wormhole::{Record, Words};
+use wormhole::Words;
 
 // More sweeps than a list can keep busy.
 const MOST_SWEEPS: u32 = 396801;
 
-// The packets of a list, each at its source, with no move counted.
-fn load(list: &[u8], m: Mesh) -> [Counted; RECORDS]
+// Makes the records those of a list's packets, each at its source, with no move counted.
+fn load(list: &[u8], m: Mesh, all: &mut [Counted; RECORDS])
     requires in_bounds { 2 ≤ length list.now }
     requires headers_served { bad_headers m.columns m.rows (after_lead list.now) ≡ 0 }
     requires few { length (after_lead list.now) ≤ 64 }
-    ensures packets { recs result ≡ filled (packets m.columns (after_lead list.now)) 64 }
-    ensures none_counted { counts result ≡ replicate 64 0 }
+    ensures packets { recs all.new ≡ filled (packets m.columns (after_lead list.now)) 64 }
+    ensures none_counted { counts all.new ≡ replicate 64 0 }
 {
-    let empty = Counted {
-        packet: Record::default(),
-        moves: 0,
-    };
-    let mut all = [empty; RECORDS];
+    all.fill(Counted::default());
     for (i, counted) in all.iter_mut().enumerate() {
         counted.packet = packet_at(list, m, i);
     }
-    all
 }
 
 // All moves that were counted.
@@ -69,21 +64,21 @@ fn sweep(words: &mut [u16], plan: Plan, m: Mesh, all: &mut [Counted; RECORDS])
     }
 }
 
-// Reads a list into words and drains it, in the list's mesh.
-pub fn drain(list: &[u8], m: Mesh, words: &mut [u16]) -> [Counted; RECORDS]
+// Reads a list into words and records and drains it, in the list's mesh. The records are lent and not handed
+// out: a copy of the array would be a call of `memcpy`, which the archive for C is not to need.
+pub fn drain(list: &[u8], m: Mesh, words: &mut [u16], all: &mut [Counted; RECORDS])
     requires mesh { meant m ≡ ruled (rule_of (lead list.now).rule) (lead list.now).columns (lead list.now).rows 0 }
     requires readable { bad_read list.now (length words.old) 64 ≡ 0 }
-    ensures { tally words.new result ≡ drain list.now words.old }
+    ensures { tally words.new all.new ≡ drain list.now words.old }
 {
     let plan = lead_of(list).plan();
     words.fill(0);
-    let mut all = load(list, m);
+    load(list, m, all);
     for _ in 0..MOST_SWEEPS {
-        let before = total_of(&all);
-        sweep(words, plan, m, &mut all);
-        if total_of(&all) == before {
-            return all;
+        let before = total_of(all);
+        sweep(words, plan, m, all);
+        if total_of(all) == before {
+            return;
         }
     }
-    all
 }

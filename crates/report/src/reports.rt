@@ -12,7 +12,7 @@ ghost use Rattle.report.specs.Coded.{printed, prints};
 use crate::drains::{drain, is_idle};
 use crate::sheets::put_sheet;
 use crate::texts::{put_said, put_text};
-use crate::turns::RECORDS;
+use crate::turns::{Counted, RECORDS};
 use route::{Mesh, Refusal};
 use traffic::{Page, lead_of, readable};
 use wormhole::words_needed;
@@ -48,7 +48,8 @@ fn put_report(page: &mut Page, list: &[u8], words: &mut [u16])
         }
     };
     let need = words_needed(m.columns, m.rows);
-    let all = drain(list, m, &mut words[0..need]);
+    let mut all = [Counted::default(); RECORDS];
+    drain(list, m, &mut words[0..need], &mut all);
     if is_idle(&all) {
         put_sheet(page, list, &all);
     } else {

@@ -25,7 +25,7 @@ const OWN: [Step; OWN_TURNS] = [
 pub const OWN_TURNS: usize = 6;
 
 // A packet's record, and how many moves of it were accepted.
-#[derive(Clone, Copy, Debug, PartialEq, Eq)]
+#[derive(Clone, Copy, Debug, Default, PartialEq, Eq)]
 pub struct Counted {
     pub packet: Record,
     pub moves: u32,
@@ -57,6 +57,7 @@ pub fn turn_at(words: Words<'_>, t: usize) -> Option<Turn>
     requires owner_bound { owner_of (seen words) (t - 384) < 257 }
     ensures made { IfSome result (λ v. Makes v (turn 64 words.entry.n words.entry.words.now t)) }
     ensures free { IfNone result ((384 ≤ t) × (owner_of (seen words.entry) (t - 384) ≡ 0)) }
+    ensures held { IfSome result (λ v. 384 ≤ t → 0 < owner_of (seen words.entry) (t - 384)) }
 {
     if t < OWN_TURNS * RECORDS {
         return Some(own_turn(t));

@@ -25,7 +25,7 @@ fn writable(plan: Plan, words: &[u16], records: &[Record], size: usize) -> Resul
     if size < MOST_BYTES {
         return Err(Refusal::BadSize);
     }
-    served(plan, words, records)
+    Ok(served(plan, words, records)?.mesh)
 }
 
 // The byte of a node.

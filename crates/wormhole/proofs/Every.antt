@@ -1,20 +1,16 @@
--- A test of each element of a list: what holds of all holds of each, and back; and the first that passes one. Assumes nothing.
+-- A test of each element of a list: what holds of all holds of each, and back; and it is made one element after another. Assumes nothing.
 use Prim.Native.Nat.{ℕ, zero, suc, ◌+◌, ◌≤◌, ◌<◌}
 use mathlib.Core.Path.{◌≡◌, refl, sym, subst, ◌∙◌}
-use mathlib.Core.Bool.{Bool, true, false, not, cond, ◌&&◌}
+use mathlib.Core.Bool.{Bool, true, false, ◌&&◌}
 use mathlib.Core.List.{List, [], ◌∷◌}
+use native.Mathlib.Numerals.{add-one}
 use native.Mathlib.Omega.{arith}
-use lib.Dec.{T, ltb, eqb}
-use lib.ListN.{length, get_or}
+use lib.Dec.{T}
+use lib.ListN.{length, get_or, drop, drop_of_length-le}
+use lib.Seq.{drop-cons}
 use mir.Facts.{yes_and}
-use borrow.Author.Tests.{ltb-false}
-use Rattle.std.specs.List.{list_all, position, prefix_len}
-use Rattle.std.specs.Option.{unwrap_or}
-use Rattle.std.specs.Prelude.{Some, None}
-use Rattle.route.specs.Grid.{pick}
-use Rattle.wormhole.specs.declared.records.Record.{Record}
+use Rattle.std.specs.List.{list_all}
 use Rattle.wormhole.specs.Range.{every}
-use Rattle.wormhole.specs.Calls.{lowest}
 
 pub both : (a b : Bool) → a && b ≡ true → (a ≡ true) × (b ≡ true)
 both true b e = (refl, e)
@@ -39,31 +35,19 @@ unfolding every
 every_is test [] = refl
 every_is test (x ∷ l) = rw (every_is test l) refl
 
--- ---- the lowest empty record is the first that the library finds
-abbrev live : Record → Bool
-live r = not (eqb r.live 0)
+-- ---- one element after another: so far the answer is that of what is left
+module _ {A : Type 0} (test : A → Bool) (d : A) (l : List A) (i : ℕ) (so_far : every test l ≡ every test (drop i l)) where
+  module _ (h : i < length l) where
+    next : every test l ≡ test (get_or l i d) && every test (drop (i + 1) l)
+    unfolding every
+    next = so_far ∙ rw (add-one i, drop-cons l i d h) refl
 
-passed : (rs : List Record) → prefix_len live rs ≡ lowest rs
-unfolding lowest
-passed [] = refl
-passed (r ∷ rs) = at (eqb r.live 0) (passed rs)
-  where
-    at : {k l : ℕ} (b : Bool) → k ≡ l → cond (not b) (1 + k) 0 ≡ pick b 0 (suc l)
-    at true e = refl
-    at false e = omega (arith, e)
+    pub stops : test (get_or l i d) ≡ false → false ≡ every test l
+    stops e = sym (next ∙ rw e refl)
 
-pub lowest_high : (rs : List Record) → lowest rs ≤ length rs
-unfolding lowest
-lowest_high [] = omega arith
-lowest_high (r ∷ rs) = at (eqb r.live 0) (lowest_high rs)
-  where
-    at : {l n : ℕ} (b : Bool) → l ≤ n → pick b 0 (suc l) ≤ suc n
-    at true e = omega arith
-    at false e = omega (arith, e)
+    pub goes_on : test (get_or l i d) ≡ true → every test l ≡ every test (drop (i + 1) l)
+    goes_on e = next ∙ rw e refl
 
-pub lowest_is : (rs : List Record) → unwrap_or (position (λ (r : Record). eqb r.live 0) rs) (length rs) ≡ lowest rs
-lowest_is rs = at (prefix_len live rs) (length rs) (ltb (prefix_len live rs) (length rs)) refl (omega (arith, lowest_high rs, passed rs)) ∙ passed rs
-  where
-    at : (k n : ℕ) (b : Bool) → ltb k n ≡ b → k ≤ n → unwrap_or (cond b (Some k) None) n ≡ k
-    at k n true e h = refl
-    at k n false e h = omega (arith, ltb-false k n e, h)
+  pub ends : length l ≤ i → true ≡ every test l
+  unfolding every
+  ends h = sym (so_far ∙ rw (drop_of_length-le l h) refl)

@@ -1,5 +1,6 @@
 -- The proofs that belong to no one function, each after those that it rests on. Draining is of all calls together.
 pub mod Every
+mod Surveying
 pub mod AnyRule
 pub mod Whole
 pub mod Sections

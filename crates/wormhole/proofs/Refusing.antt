@@ -1,7 +1,7 @@
 -- Refusals in their order: each return from the tests before it, and what no refusal has taught. Assumes nothing.
 use Prim.Native.Nat.{ℕ, zero, suc, ◌≤◌, ◌<◌}
 use mathlib.Core.Path.{◌≡◌, refl, sym, ◌∙◌}
-use mathlib.Core.Bool.{Bool, true, false, not, ◌&&◌}
+use mathlib.Core.Bool.{Bool, true, false, not, ◌&&◌, and-false}
 use mathlib.Core.List.{List}
 use mathlib.Core.Logic.{◌↔◌}
 use native.Mathlib.Omega.{arith}
@@ -13,10 +13,11 @@ use borrow.Author.Tests.{eq-eqb, le-leb}
 use Rattle.route.specs.Grid.{pick}
 use Rattle.route.specs.Mesh.{Mesh, ruled}
 use Rattle.route.specs.Numbers.{channels, rule_of}
-use Rattle.route.specs.Served.{unless, bad_mesh}
-use Rattle.route.proofs.Promises.{Served, served}
+use Rattle.route.specs.declared.refusals.Refusal.{Refusal}
+use Rattle.route.specs.Served.{unless, bad_mesh, code}
+use Rattle.route.proofs.Promises.{Served, served, code_high}
 use Rattle.wormhole.specs.declared.records.Record.{Record}
-use Rattle.wormhole.specs.Memory.{sections}
+use Rattle.wormhole.specs.Memory.{net, sections}
 use Rattle.wormhole.specs.Range.{every, words_fit, record_fits}
 use Rattle.wormhole.specs.Calls.{needed, bad_size, bad_memory, fits, bad_packet, bad_offer}
 use Rattle.wormhole.specs.Coded.{buffered}
@@ -62,11 +63,19 @@ module _ (C R rule : ℕ) (w : List ℕ) (rs : List Record) (sized : 0 ≡ bad_s
   abbrev the_words : Bool
   the_words = words_fit (buffered g) (length rs) (sections (channels g.columns g.rows) w)
 
+  pub memory_records : (e : Refusal) → code e ≡ pick (every (record_fits g) rs) 0 9 → code e ≡ bad_memory C R rule (length w) (length rs) (fits C R rule w rs)
+  memory_records e h = by (every (record_fits g) rs) refl h
+    where
+      by : (b : Bool) → every (record_fits g) rs ≡ b → code e ≡ pick b 0 9 → code e ≡ bad_memory C R rule (length w) (length rs) (fits C R rule w rs)
+      by true n k = absurd (omega (arith, k, code_high e))
+      by false n k = k ∙ rw (sym sized, rw eg at n, and-false (words_fit (net C R rule) (length rs) (sections (channels C R) w))) refl
+
+  -- what no refusal of theirs has taught
+  pub they_fit : ◌≡◌ {A = ℕ} 0 (pick (every (record_fits g) rs) 0 9) → every (record_fits g) rs ≡ true
+  they_fit h = is_true _ ((none_if (every (record_fits g) rs) 8 0).0 (sym h)).0
+
   pub memory_words : the_words ≡ false → 9 ≡ bad_memory C R rule (length w) (length rs) (fits C R rule w rs)
   memory_words h = rw (sym sized, rw eg at h) refl
-
-  pub memory_records : the_words ≡ true → every (record_fits g) rs ≡ false → 9 ≡ bad_memory C R rule (length w) (length rs) (fits C R rule w rs)
-  memory_records h i = rw (sym sized, rw eg at h, rw eg at i) refl
 
   pub memory_good : the_words ≡ true → every (record_fits g) rs ≡ true → 0 ≡ bad_memory C R rule (length w) (length rs) (fits C R rule w rs)
   memory_good h i = rw (sym sized, rw eg at h, rw eg at i) refl
@@ -79,9 +88,18 @@ fitting C R rule words records fits hk h =
     (sized C R rule words records (sym z.0) refl, is_true fits ((none_if fits 8 0).0 z.1).0)
 
 -- ---- an offer
+-- a record of a memory, which is below 64
+pub record Room (empty records : ℕ) : Type 0 where
+  pub below : empty < records
+  pub few : records ≤ 64
+
 -- what no refusal has taught: there is a record to put the packet in
-pub room_left : (C R rule words records : ℕ) (fits : Bool) (empty a b f : ℕ) → 0 ≡ bad_offer C R rule words records fits empty a b f → empty < records
-room_left C R rule words records fits empty a b f hk =
-    let memory = (none_first (bad_memory C R rule words records fits) _).0 (sym hk) in
+pub offering : (C R rule words records : ℕ) (fits : Bool) (empty a b f : ℕ) {k : ℕ} → k ≡ bad_offer C R rule words records fits empty a b f → k ≡ 0
+    → Room empty records
+offering C R rule words records fits empty a b f hk h =
+    let memory = (none_first (bad_memory C R rule words records fits) _).0 (sym hk ∙ h) in
     let full = ((none_first (bad_packet C R a b f) _).0 memory.1).1 in
-    ltb_yes ((none_if (ltb empty records) 9 0).0 full).0
+    record {
+      below = ltb_yes ((none_if (ltb empty records) 9 0).0 full).0;
+      few = (fitting C R rule words records fits (sym memory.0) refl).0.few;
+    }

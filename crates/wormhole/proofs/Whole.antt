@@ -3,7 +3,6 @@ use Prim.Native.Nat.{ℕ, ◌≤◌, ◌<◌}
 use mathlib.Core.Path.{◌≡◌, refl, sym, ◌∙◌}
 use mathlib.Core.Bool.{Bool, true, false}
 use mathlib.Core.List.{List}
-use native.Mathlib.Omega.{arith}
 use lib.ListN.{length, set, get_or, replicate}
 use borrow.Author.Tests.{lt-ltb, le-ltb}
 use Rattle.route.specs.declared.refusals.Refusal.{Refusal}
@@ -54,9 +53,9 @@ module _ (C R rule : ℕ) (w : List ℕ) (rs : List Record) (a b f : ℕ) where
     offer_unfit e h = rw (sym served, sym (rw em at h), refuses_by (λ k. k) _ e) (sym (refuses_by (λ k. left (offered k 255) w rs) _ e))
 
     module _ (fit : 0 ≡ bad_packet m.columns m.rows a b f) where
-      pub offer_full : length rs ≡ lowest rs → left (offered 10 255) w rs ≡ offer C R rule w rs a b f
+      pub offer_full : length rs ≤ lowest rs → left (offered 10 255) w rs ≡ offer C R rule w rs a b f
       unfolding offer
-      offer_full h = rw (sym served, sym (rw em at fit), le-ltb (lowest rs) (length rs) (omega arith)) refl
+      offer_full h = rw (sym served, sym (rw em at fit), le-ltb (lowest rs) (length rs) h) refl
 
       pub offer_done : {i : ℕ} → i < length rs → i ≡ lowest rs → left (offered 0 i) w (set rs i (fresh a b f)) ≡ offer C R rule w rs a b f
       unfolding offer

@@ -27,6 +27,6 @@ pub use packets::Packet;
 pub use ranges::{MOST_FLITS, flits_served};
 pub use records::{Record, fresh};
 pub use resets::mesh_reset;
-pub use sizes::{served, sized, words_needed};
+pub use sizes::{Judged, served, sized, words_needed};
 pub use steps::{Step, may_move};
 pub use words::Words;

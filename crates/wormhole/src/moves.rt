@@ -24,7 +24,7 @@ pub fn mesh_move(
     ensures { left (refusal_of result) words.new records.new
         ≡ move plan.columns plan.rows plan.rule words.old records.old «record» kind channel direction }
 {
-    let m = served(plan, words, records)?;
+    let m = served(plan, words, records)?.mesh;
     let i = record as usize;
     if records.len() <= i {
         return Err(Refusal::BadMove);

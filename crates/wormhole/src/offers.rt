@@ -1,7 +1,7 @@
 // The call that puts a packet at its source.
-ghost use Rattle.std.specs.Prelude.{◌≡◌, ◌<◌, length, unwrap_or, IfSome};
+ghost use Rattle.std.specs.Prelude.{◌≡◌};
 ghost use Rattle.route.specs.Served.{refusal_of};
-ghost use Rattle.wormhole.specs.Calls.{left, lowest, bad_packet, offered_of, offer};
+ghost use Rattle.wormhole.specs.Calls.{left, bad_packet, offered_of, offer};
 
 use crate::ranges::flits_served;
 use crate::records::{Record, fresh};
@@ -52,14 +52,6 @@ fn check_packet(m: Mesh, source: u16, destination: u16, flits: u8) -> Result<(),
     Ok(())
 }
 
-// The lowest empty record.
-fn lowest_empty(records: &[Record]) -> Option<usize>
-    ensures bound { IfSome result (λ i. i < length records.now) }
-    ensures lowest { unwrap_or result (length records.now) ≡ lowest records.now }
-{
-    records.iter().position(|r| r.live == 0)
-}
-
 /// Puts a packet at its source, in the lowest empty record, and answers that record's number. With a
 /// refusal memory is as it was.
 pub fn mesh_offer(
@@ -73,9 +65,9 @@ pub fn mesh_offer(
     ensures { left (offered_of result) words.now records.new
         ≡ offer plan.columns plan.rows plan.rule words.now records.old source destination flits }
 {
-    let m = served(plan, words, records)?;
-    check_packet(m, source, destination, flits)?;
-    let Some(empty) = lowest_empty(records) else {
+    let memory = served(plan, words, records)?;
+    check_packet(memory.mesh, source, destination, flits)?;
+    let Some(empty) = memory.empty else {
         return Err(Refusal::Full);
     };
     records[empty] = fresh(source, destination, flits);

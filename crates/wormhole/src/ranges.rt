@@ -1,12 +1,14 @@
 // Is memory in range? What is out of range is refused before a step looks at it.
-ghost use Rattle.std.specs.Prelude.{◌≡◌, length};
+ghost use Rattle.std.specs.Prelude.{◌≡◌, ◌<◌, length, unwrap_or, IfSome, IfOk};
+ghost use Rattle.route.specs.Grid.{pick};
+ghost use Rattle.route.specs.Served.{refusal_of};
 ghost use Rattle.route.specs.Coded.{meant};
 ghost use Rattle.wormhole.specs.Range.{every, at_most, names, blank, flits_served, packet_fits, record_fits, words_fit};
-ghost use Rattle.wormhole.specs.Calls.{needed};
+ghost use Rattle.wormhole.specs.Calls.{needed, lowest};
 ghost use Rattle.wormhole.specs.Coded.{built, laid};
 
 use crate::records::Record;
-use route::{Mesh, is_channel};
+use route::{Mesh, Refusal, is_channel};
 
 /// How many flits a channel can hold.
 pub const DEPTH: u16 = 1;
@@ -24,11 +26,17 @@ fn names(m: Mesh, word: u16) -> bool
     is_channel(m, word - 1)
 }
 
-// Is each word of a section at most so great?
+// Is each word of a section at most so great? A loop and no `all`: these passes are most of what a move
+// costs, and the compiler unrolls the loop alone.
 fn all_at_most(section: &[u16], most: u16) -> bool
     ensures { result ≡ every (at_most most) section.now }
 {
-    section.iter().all(|&word| word <= most)
+    for &word in section {
+        if most < word {
+            return false;
+        }
+    }
+    true
 }
 
 // Does each word of a section name a channel, or none?
@@ -84,9 +92,20 @@ pub fn record_fits(m: Mesh, r: Record) -> bool
     (r.live == 1) & packet_fits(m, r)
 }
 
-/// Are all records in range?
-pub fn records_fit(m: Mesh, records: &[Record]) -> bool
-    ensures { result ≡ every (record_fits (meant m)) records.now }
+/// The lowest empty record, if one is, of records that are all in range. It passes over them once.
+pub fn survey(m: Mesh, records: &[Record]) -> Result<Option<usize>, Refusal>
+    ensures refusal { refusal_of result ≡ pick (every (record_fits (meant m)) records.now) 0 9 }
+    ensures bound { IfOk result (λ o. IfSome o (λ i. i < length records.now)) }
+    ensures lowest { IfOk result (λ o. unwrap_or o (length records.now) ≡ lowest records.now) }
 {
-    records.iter().all(|&r| record_fits(m, r))
+    let mut empty = None;
+    for (i, &r) in records.iter().enumerate() {
+        if !record_fits(m, r) {
+            return Err(Refusal::BadMemory);
+        }
+        if (r.live == 0) & empty.is_none() {
+            empty = Some(i);
+        }
+    }
+    Ok(empty)
 }

@@ -19,7 +19,7 @@ use Rattle.wormhole.specs.Memory.{net, sections, joined, none, fresh}
 use Rattle.wormhole.specs.Range.{flits_served}
 use Rattle.wormhole.specs.Steps.{known, may, act}
 use Rattle.wormhole.specs.Calls.{Left, left, offered, needed, bad_size, bad_memory, fits, lowest, bad_packet, bad_offer, offer, bad_move, move}
-use Rattle.wormhole.proofs.Refusing.{none_first, none_if, none_unless, size_good, room_left}
+use Rattle.wormhole.proofs.Refusing.{none_first, none_if, none_unless, size_good, offering}
 
 -- ---- refusals
 -- what a call answers is its refusal
@@ -142,7 +142,7 @@ module _ (C R rule : ℕ) (w : List ℕ) (rs : List Record) where
           some = leb_yes few.0;
           most = leb_yes few.1;
           apart = eqb_no (none_unless (eqb a b) 4 0 flits.1).0;
-          low = room_left C R rule (length w) (length rs) (fits C R rule w rs) (lowest rs) a b f (sym z);
+          low = (offering C R rule (length w) (length rs) (fits C R rule w rs) (lowest rs) a b f (sym z) refl).below;
           unused = lowest_unused rs;
           number = rw z refl;
           words = rw z refl;

@@ -8,4 +8,4 @@ use Rattle.report.proofs.drains.load.Given as goal
 
 abbrev pub invariant-loop-i : goal.invariant-loop-i
 invariant-loop-i l =
-    (recs l.counted-items ≡ stored (packets l.m.columns (after_lead l.list)) (replicate 64 none) l.i) × (counts l.counted-items ≡ replicate 64 0)
+    (recs l.all ≡ stored (packets l.m.columns (after_lead l.list)) (replicate 64 none) l.i) × (counts l.all ≡ replicate 64 0)

@@ -2,6 +2,7 @@
 use Prim.Native.Nat.{ℕ, ◌-◌}
 use mathlib.Core.Path.{◌≡◌, refl, ◌∙◌}
 use mathlib.Core.List.{[], ◌∷◌}
+use native.Mathlib.Omega.{arith}
 use borrow.Author.Tests.{eq-eqb, ne_eqb}
 use Rattle.route.specs.Coded.{meant}
 use Rattle.wormhole.specs.declared.records.Record.{Record}
@@ -32,8 +33,12 @@ pub node_byte-requires-2-clause-node_bound : goal.node_byte-requires-2-clause-no
 node_byte-requires-2-clause-node_bound c = (alive (meant c.args.m) c.args.r c.requires.fits c.if-r-eq0.false).destination
 
 pub overflow_sub-r : goal.overflow_sub-r
-overflow_sub-r c = (alive (meant c.args.m) c.args.r c.requires.fits c.if-r-eq0.false).some
+overflow_sub-r c =
+    let a = alive (meant c.args.m) c.args.r c.requires.fits c.if-r-eq0.false in
+    omega arith
 
 pub returns : goal.returns
-returns c = let x = c.args in
-    three x.page.now x.m.columns x.r c.if-r-eq0.false c.node_byte.ensures c.node_byte-2.ensures refl c.put.ensures c.put-2.ensures c.put-3.ensures
+returns c =
+    let x = c.args in
+    let a = alive (meant x.m) x.r c.requires.fits c.if-r-eq0.false in
+    three x.page.now x.m.columns x.r (omega arith) c.node_byte.ensures c.node_byte-2.ensures (omega arith) c.put.ensures c.put-2.ensures c.put-3.ensures

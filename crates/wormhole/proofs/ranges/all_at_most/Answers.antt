@@ -1,15 +1,17 @@
--- A chain over a slice gives the library's word for it. Assumes nothing.
-use mathlib.Core.Path.{sym, ◌∙◌}
-use borrow.Author.Rules.{rules}
-use borrow.Author.Tests.{tests}
-use Rattle.std.proofs.lemmas.Iterator.{YieldsList-from_slice}
-use Rattle.std.proofs.lemmas.Iterator.Search.{all_from_yields_List}
+-- Each turn asks one word more. Assumes nothing.
+use native.Mathlib.Omega.{arith}
+use borrow.Author.Tests.{le-leb, lt-leb}
 use Rattle.wormhole.specs.Range.{at_most}
-use Rattle.wormhole.proofs.Every.{every_is}
+use Rattle.wormhole.proofs.Every.{stops, goes_on, ends}
 use Rattle.wormhole.proofs.ranges.all_at_most.Goals as goal
 
-pub returns : goal.returns
+pub returns-then-most-word : goal.returns-then-most-word
 unfolding at_most
-returns c =
-    all_from_yields_List (at_most c.args.most) _ _ c.all.result c.all.ensures.ran (YieldsList-from_slice c.args.section.now cc) (λ x b q k. search (rules, tests))
-    ∙ sym (every_is (at_most c.args.most) c.args.section.now)
+returns-then-most-word c = stops (at_most c.args.most) 0 c.args.section.now c.loop-word.word-index c.loop-word.invariant (omega arith) (lt-leb _ _ c.if-most-word.true)
+
+pub loop-word-preserved : goal.loop-word-preserved
+unfolding at_most
+loop-word-preserved c = goes_on (at_most c.args.most) 0 c.args.section.now c.loop-word.word-index c.loop-word.invariant (omega arith) (le-leb _ _ c.if-most-word.false)
+
+pub returns : goal.returns
+returns c = ends (at_most c.args.most) 0 c.args.section.now c.loop-word.word-index c.loop-word.invariant (omega arith)

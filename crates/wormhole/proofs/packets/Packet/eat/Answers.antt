@@ -21,4 +21,4 @@ returns c =
     let x = c.args in
     let d = c.drain.ensures in
     let e = moved _ _ d.count c.leave-released.ensures (search rules) in
-    ate x.self.mesh _ _ c.channels-n.ensures.value x.self.state _ _ _ _ d.sections e c.finish.ensures
+    ate x.self.mesh _ _ c.channels-n.ensures.value x.self.state _ _ _ _ d.sections e (search rules)
