@@ -9,7 +9,6 @@ use lib.Dec.{T}
 use lib.ListN.{length, get_or, drop, drop_of_length-le}
 use lib.Seq.{drop-cons}
 use mir.Facts.{yes_and}
-use Rattle.std.specs.List.{list_all}
 use Rattle.wormhole.specs.Range.{every}
 
 pub both : (a b : Bool) → a && b ≡ true → (a ≡ true) × (b ≡ true)
@@ -29,11 +28,9 @@ unfolding every
 every_of test d [] h = tt
 every_of test d (x ∷ l) h = yes_and (test x) (every test l) (h 0 (omega arith)) (every_of test d l (λ i low. h (suc i) (omega arith)))
 
--- it is the library's
-pub every_is : {A : Type 0} (test : A → Bool) (l : List A) → every test l ≡ list_all test l
-unfolding every
-every_is test [] = refl
-every_is test (x ∷ l) = rw (every_is test l) refl
+-- a test answers for what it was asked of, however that is written
+pub asked_of : {A : Type 0} (test : A → Bool) {x y : A} {b : Bool} → test x ≡ b → x ≡ y → test y ≡ b
+asked_of test e h = rw h at e
 
 -- ---- one element after another: so far the answer is that of what is left
 module _ {A : Type 0} (test : A → Bool) (d : A) (l : List A) (i : ℕ) (so_far : every test l ≡ every test (drop i l)) where

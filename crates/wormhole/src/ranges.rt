@@ -26,8 +26,10 @@ fn names(m: Mesh, word: u16) -> bool
     is_channel(m, word - 1)
 }
 
-// Is each word of a section at most so great? A loop and no `all`: these passes are most of what a move
-// costs, and the compiler unrolls the loop alone.
+// These two are loops and no `all`: they are most of what a move costs, and the compiler makes more of a
+// loop.
+//
+// Is each word of a section at most so great?
 fn all_at_most(section: &[u16], most: u16) -> bool
     ensures { result ≡ every (at_most most) section.now }
 {
@@ -43,10 +45,17 @@ fn all_at_most(section: &[u16], most: u16) -> bool
 fn all_name(section: &[u16], m: Mesh) -> bool
     ensures { result ≡ every (names (meant m)) section.now }
 {
-    section.iter().all(|&word| names(m, word))
+    for &word in section {
+        if !names(m, word) {
+            return false;
+        }
+    }
+    true
 }
 
-/// Are all words in range, in a memory of so many records?
+/// Are all words in range, in a memory of so many records? Kept apart: within a larger function its loops run
+/// short of registers.
+#[inline(never)]
 pub fn words_fit(words: &[u16], m: Mesh, count: u16) -> bool
     requires { length words.now ≡ needed m.columns m.rows }
     ensures { result ≡ words_fit (built m) count (laid m words.now) }

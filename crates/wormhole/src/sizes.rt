@@ -44,8 +44,8 @@ pub struct Judged {
     pub empty: Option<usize>,
 }
 
-/// What is known of this memory, where it is lent for a plan and is in range. The records come first: they
-/// are fewer than the words.
+/// What is known of this memory, where it is lent for a plan and is in range. The records come first: there
+/// are at most 64, and up to 3,072 words.
 pub fn served(plan: Plan, words: &[u16], records: &[Record]) -> Result<Judged, Refusal>
     ensures refusal { refusal_of result ≡ bad_memory plan.columns plan.rows plan.rule (length words.now) (length records.now)
         (fits plan.columns plan.rows plan.rule words.now records.now) }

@@ -1,15 +1,18 @@
--- A chain over a slice gives the library's word for it. Assumes nothing.
+-- Each turn asks one word more. Assumes nothing.
 use mathlib.Core.Path.{sym, ◌∙◌}
-use borrow.Author.Rules.{rules}
-use borrow.Author.Tests.{tests}
-use Rattle.std.proofs.lemmas.Iterator.{YieldsList-from_slice}
-use Rattle.std.proofs.lemmas.Iterator.Search.{all_from_yields_List}
+use native.Mathlib.Omega.{arith}
 use Rattle.route.specs.Coded.{meant}
 use Rattle.wormhole.specs.Range.{names}
-use Rattle.wormhole.proofs.Every.{every_is}
+use Rattle.wormhole.proofs.Every.{asked_of, stops, goes_on, ends}
 use Rattle.wormhole.proofs.ranges.all_name.Goals as goal
 
+pub returns-then-not-names : goal.returns-then-not-names
+returns-then-not-names c =
+    stops (names (meant c.args.m)) 0 c.args.section.now c.loop-word.word-index c.loop-word.invariant (omega arith) (asked_of (names (meant c.args.m)) (sym c.names.ensures ∙ c.if-not-names.true) (omega arith))
+
+pub loop-word-preserved : goal.loop-word-preserved
+loop-word-preserved c =
+    goes_on (names (meant c.args.m)) 0 c.args.section.now c.loop-word.word-index c.loop-word.invariant (omega arith) (asked_of (names (meant c.args.m)) (sym c.names.ensures ∙ c.if-not-names.false) (omega arith))
+
 pub returns : goal.returns
-returns c =
-    all_from_yields_List (names (meant c.args.m)) _ _ c.all.result c.all.ensures.ran (YieldsList-from_slice c.args.section.now cc) (λ x b q k. search (rules, tests))
-    ∙ sym (every_is (names (meant c.args.m)) c.args.section.now)
+returns c = ends (names (meant c.args.m)) 0 c.args.section.now c.loop-word.word-index c.loop-word.invariant (omega arith)
