@@ -4,9 +4,10 @@ use mathlib.Core.Path.{◌≡◌, refl, sym, ap, ◌∙◌}
 use mathlib.Core.Bool.{Bool, true, false, not, false≢true}
 use mathlib.Core.List.{List, [], ◌∷◌}
 use native.Mathlib.Omega.{arith}
-use lib.Dec.{ltb, eqb}
+use lib.Dec.{T, ltb, eqb}
 use lib.ListN.{length, get_or}
-use borrow.Author.Tests.{eq-eqb, eqb-true, lt-ltb, le-ltb, ltb-true, ltb-false}
+use mir.Facts.{eqb_yes}
+use borrow.Author.Tests.{eq-eqb, lt-ltb, le-ltb, ltb-true, ltb-false}
 use Rattle.std.specs.Prelude.{Option, None, Some, IfSome}
 use Rattle.std.specs.Option.{is_some, unwrap_or}
 use Rattle.route.specs.Grid.{pick}
@@ -34,16 +35,15 @@ lowest_first (r ∷ rs) (suc i) h e = at (eqb r.live 0) (lowest_first rs i (omeg
     at true e = omega arith
     at false e = omega (arith, e)
 
--- and it is
-lowest_empty : (rs : List Record) → lowest rs < length rs → (get_or rs (lowest rs) none).live ≡ 0
+-- the lowest empty record is not live, nor is what is read where none is empty
+pub lowest_unused : (l : List Record) → (get_or l (lowest l) none).live ≡ 0
 unfolding lowest
-lowest_empty [] h = absurd (omega (arith, h))
-lowest_empty (r ∷ rs) h = at (eqb r.live 0) refl (λ l. lowest_empty rs l) h
+lowest_unused [] = refl
+lowest_unused (r ∷ l) = go (lowest_unused l) (eqb r.live 0) (λ t. eqb_yes t)
   where
-    at : (b : Bool) → eqb r.live 0 ≡ b → (lowest rs < length rs → (get_or rs (lowest rs) none).live ≡ 0) → pick b 0 (suc (lowest rs)) < length (r ∷ rs)
-        → (get_or (r ∷ rs) (pick b 0 (suc (lowest rs))) none).live ≡ 0
-    at true e more l = eqb-true r.live 0 e
-    at false e more l = more (omega (arith, l))
+    go : (get_or l (lowest l) none).live ≡ 0 → (b : Bool) → (T b → r.live ≡ 0) → (get_or (r ∷ l) (pick b 0 (suc (lowest l))) none).live ≡ 0
+    go later true is_empty = is_empty tt
+    go later false is_empty = later
 
 -- the lowest empty one of the first i, or how many records there are where none of these is
 abbrev pub found : List Record → ℕ → ℕ
@@ -77,7 +77,7 @@ module _ (rs : List Record) (i : ℕ) (h : i < length rs) {r : Record} (er : r �
       at s false x = before.1 s
       at s true x =
           let same : lowest rs ≡ i = omega (arith, ltb-true (lowest rs) (i + 1) x, ltb-false (lowest rs) i s) in
-          let dead : r.live ≡ 0 = ap Record.live (er ∙ ap (λ j. get_or rs j none) (sym same)) ∙ lowest_empty rs (omega (arith, h, same)) in
+          let dead : r.live ≡ 0 = ap Record.live (er ∙ ap (λ j. get_or rs j none) (sym same)) ∙ lowest_unused rs in
           absurd (omega (arith, h, k dead, before.1 s))
 
       by : (b : Bool) → ltb (lowest rs) i ≡ b → e ≡ found rs (i + 1)

@@ -2,8 +2,8 @@
 -- By the cases of the refusals. Assumes nothing.
 use Prim.Native.Nat.{ℕ, zero, suc, ◌*◌, ◌≤◌, ◌<◌}
 use mathlib.Core.Path.{◌≡◌, refl, sym, ◌∙◌}
-use mathlib.Core.Bool.{Bool, true, false, not, ◌&&◌, ◌||◌}
-use mathlib.Core.List.{List, [], ◌∷◌}
+use mathlib.Core.Bool.{Bool, not, ◌&&◌, ◌||◌}
+use mathlib.Core.List.{List}
 use mathlib.Core.Logic.{◌≢◌}
 use lib.Dec.{T, leb, ltb, eqb}
 use lib.ListN.{length, set, get_or}
@@ -19,6 +19,7 @@ use Rattle.wormhole.specs.Memory.{net, sections, joined, none, fresh}
 use Rattle.wormhole.specs.Range.{flits_served}
 use Rattle.wormhole.specs.Steps.{known, may, act}
 use Rattle.wormhole.specs.Calls.{Left, left, offered, needed, bad_size, bad_memory, fits, lowest, bad_packet, bad_offer, offer, bad_move, move}
+use Rattle.wormhole.proofs.Surveying.{lowest_unused}
 use Rattle.wormhole.proofs.Refusing.{none_first, none_if, none_unless, size_good, offering}
 
 -- ---- refusals
@@ -27,16 +28,6 @@ answers : {A : Type 0} (code : A → ℕ) (refuse : ℕ → A) (served : A) → 
     → (k : ℕ) → code (unless refuse k served) ≡ k
 answers code refuse served given free zero = free
 answers code refuse served given free (suc k) = given (suc k)
-
--- the lowest empty record is not live, nor is what is read where none is empty
-lowest_unused : (l : List Record) → (get_or l (lowest l) none).live ≡ 0
-unfolding lowest
-lowest_unused [] = refl
-lowest_unused (r ∷ l) = go (lowest_unused l) (eqb r.live 0) (λ t. eqb_yes t)
-  where
-    go : (get_or l (lowest l) none).live ≡ 0 → (b : Bool) → (T b → r.live ≡ 0) → (get_or (r ∷ l) (pick b 0 (suc (lowest l))) none).live ≡ 0
-    go later true is_empty = is_empty tt
-    go later false is_empty = later
 
 module _ (C R rule : ℕ) (w : List ℕ) (rs : List Record) where
   -- the refusal of the memory
