@@ -1,15 +1,18 @@
--- A test of each element of a list: what holds of all holds of each, and back; and it is made one element after another. Assumes nothing.
+-- A test of each element of a list: what holds of all holds of each, and back; it is made one element after another; and the first that passes one. Assumes nothing.
 use Prim.Native.Nat.{ℕ, zero, suc, ◌+◌, ◌≤◌, ◌<◌}
 use mathlib.Core.Path.{◌≡◌, refl, sym, subst, ◌∙◌}
 use mathlib.Core.Bool.{Bool, true, false, ◌&&◌}
 use mathlib.Core.List.{List, [], ◌∷◌}
 use native.Mathlib.Numerals.{add-one}
 use native.Mathlib.Omega.{arith}
-use lib.Dec.{T}
+use lib.Dec.{T, eqb}
 use lib.ListN.{length, get_or, drop, drop_of_length-le}
 use lib.Seq.{drop-cons}
 use mir.Facts.{yes_and}
+use Rattle.route.specs.Grid.{pick}
+use Rattle.wormhole.specs.declared.records.Record.{Record}
 use Rattle.wormhole.specs.Range.{every}
+use Rattle.wormhole.specs.Calls.{lowest}
 
 pub both : (a b : Bool) → a && b ≡ true → (a ≡ true) × (b ≡ true)
 both true b e = (refl, e)
@@ -48,3 +51,13 @@ module _ {A : Type 0} (test : A → Bool) (d : A) (l : List A) (i : ℕ) (so_far
   pub ends : length l ≤ i → true ≡ every test l
   unfolding every
   ends h = sym (so_far ∙ rw (drop_of_length-le l h) refl)
+
+-- ---- the lowest empty record is one of the records, or their number where none is empty
+pub lowest_high : (rs : List Record) → lowest rs ≤ length rs
+unfolding lowest
+lowest_high [] = omega arith
+lowest_high (r ∷ rs) = at (eqb r.live 0) (lowest_high rs)
+  where
+    at : {l n : ℕ} (b : Bool) → l ≤ n → pick b 0 (suc l) ≤ suc n
+    at true e = omega arith
+    at false e = omega (arith, e)

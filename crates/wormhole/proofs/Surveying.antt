@@ -14,15 +14,7 @@ use Rattle.route.specs.Grid.{pick}
 use Rattle.wormhole.specs.declared.records.Record.{Record}
 use Rattle.wormhole.specs.Memory.{none}
 use Rattle.wormhole.specs.Calls.{lowest}
-
-pub lowest_high : (rs : List Record) → lowest rs ≤ length rs
-unfolding lowest
-lowest_high [] = omega arith
-lowest_high (r ∷ rs) = at (eqb r.live 0) (lowest_high rs)
-  where
-    at : {l n : ℕ} (b : Bool) → l ≤ n → pick b 0 (suc l) ≤ suc n
-    at true e = omega arith
-    at false e = omega (arith, e)
+use Rattle.wormhole.proofs.Every.{lowest_high}
 
 -- none lower is empty
 lowest_first : (rs : List Record) (i : ℕ) → i < length rs → (get_or rs i none).live ≡ 0 → lowest rs ≤ i
