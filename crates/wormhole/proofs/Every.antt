@@ -1,4 +1,4 @@
--- A test of each element of a list: what holds of all holds of each, and back; it is made one element after another; and the first that passes one. Assumes nothing.
+-- A test of each element of a list: what holds of all holds of each, and back; it is made one element after another; last, the lowest empty record. Assumes nothing.
 use Prim.Native.Nat.{ℕ, zero, suc, ◌+◌, ◌≤◌, ◌<◌}
 use mathlib.Core.Path.{◌≡◌, refl, sym, subst, ◌∙◌}
 use mathlib.Core.Bool.{Bool, true, false, ◌&&◌}
@@ -52,7 +52,7 @@ module _ {A : Type 0} (test : A → Bool) (d : A) (l : List A) (i : ℕ) (so_far
   unfolding every
   ends h = sym (so_far ∙ rw (drop_of_length-le l h) refl)
 
--- ---- the lowest empty record is one of the records, or their number where none is empty
+-- ---- the lowest empty record's number is no higher than how many records there are
 pub lowest_high : (rs : List Record) → lowest rs ≤ length rs
 unfolding lowest
 lowest_high [] = omega arith
